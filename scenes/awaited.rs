@@ -1,4 +1,5 @@
 //! What a set holds in these scenes: a future, and a stream of one item, that threads wake.
+use crate::Host;
 use anyhow::bail;
 use futures::task::Poll;
 use futures_buffered::SlotFuture;
@@ -9,7 +10,7 @@ use std::alloc::{AllocError, Global};
 use std::sync::atomic::AtomicU64;
 use std::sync::atomic::Ordering::SeqCst;
 use std::sync::{Arc, Mutex};
-use std::thread::{self, JoinHandle, Threads};
+use std::thread::{self, JoinHandle};
 
 /// Where a future leaves its waker, and a thread counts its wakes.
 #[derive(Drop)]
@@ -49,6 +50,21 @@ pub fn new_awaited(
         post: Arc::try_clone(&post)?,
     };
     Ok((held, post))
+}
+
+/// So many of them, numbered from 0, and their posts.
+pub fn several(
+    alloc: Global,
+    count: usize,
+    wakes: usize,
+) -> Result<(Vec<Awaited>, Vec<Arc<Post>>), AllocError> {
+    let (mut held, mut posts): (Vec<Awaited>, Vec<Arc<Post>>) = (Vec::new(alloc), Vec::new(alloc));
+    for number in 0..count {
+        let (future, post) = new_awaited(alloc, number, wakes)?;
+        let _ = held.push(future);
+        let _ = posts.push(post);
+    }
+    Ok((held, posts))
 }
 
 impl SlotFuture<SharedWaker> for Awaited {
@@ -102,24 +118,37 @@ pub fn take_waker(post: &Post) -> Option<SharedWaker> {
 }
 
 /// Starts a thread that wakes by this waker so often.
-pub fn wake_by<R: Threads>(
-    rt: &R,
+pub fn wake_by(
+    rt: &impl Host,
     post: &Arc<Post>,
     waker: SharedWaker,
     wakes: usize,
-) -> Result<JoinHandle<()>, anyhow::Error> {
+) -> anyhow::Result<JoinHandle<()>> {
     let post = Arc::try_clone(post)?;
     Ok(thread::spawn(rt, move || wake_often(&post, &waker, wakes))?)
 }
 
 /// The same by the waker that the future has left.
-pub fn wake_from_thread<R: Threads>(
-    rt: &R,
+pub fn wake_from_thread(
+    rt: &impl Host,
     post: &Arc<Post>,
     wakes: usize,
-) -> Result<JoinHandle<()>, anyhow::Error> {
+) -> anyhow::Result<JoinHandle<()>> {
     match take_waker(post) {
         Some(waker) => wake_by(rt, post, waker, wakes),
         None => bail!("the future has left no waker"),
     }
+}
+
+/// The same for each of these posts.
+pub fn wake_all(
+    rt: &impl Host,
+    posts: &Vec<Arc<Post>>,
+    wakes: usize,
+) -> anyhow::Result<Vec<JoinHandle<()>>> {
+    let mut threads: Vec<JoinHandle<()>> = Vec::new(rt.alloc());
+    for post in posts.iter() {
+        let _ = threads.push(wake_from_thread(rt, post, wakes)?);
+    }
+    Ok(threads)
 }

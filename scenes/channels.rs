@@ -1,4 +1,5 @@
 //! A channel from one sender on a thread, whose receiver is polled meanwhile.
+use crate::Host;
 use crate::slots::Slots;
 use crate::tasks::{drain, wait_for};
 use anyhow::bail;
@@ -10,10 +11,8 @@ use futures_buffered_core::ready_shared::SharedReady;
 use futures_buffered_held::spsc::{Receiver, Sender, TrySendError, channel};
 use futures_buffered_merges::merge_bounded::MergeBounded;
 use futures_buffered_merges::slot_stream::SlotStream;
-use std::alloc::{AllocGlobal, Global};
-use std::random::RandomSource;
-use std::sync::Wait;
-use std::thread::{self, Threads, yield_now};
+use std::alloc::Global;
+use std::thread::{self, yield_now};
 
 type Item = Box<u64>;
 
@@ -33,7 +32,7 @@ fn send_all(alloc: Global, mut sender: Sender<Item>, items: usize) -> Option<Sen
     Some(sender)
 }
 
-fn sleep_until_named<R: Wait>(rt: &R, slots: &mut Slots, slot: usize) {
+fn sleep_until_named(rt: &impl Host, slots: &mut Slots, slot: usize) {
     for _ in rt.forever() {
         if slots.source.take() == Taken::Slot(slot) {
             return;
@@ -44,13 +43,13 @@ fn sleep_until_named<R: Wait>(rt: &R, slots: &mut Slots, slot: usize) {
 
 // Receives until so many items came or the stream ends, at the slots 0 and 1 in turn where it moves. Returns how many
 // came, where they came in order.
-fn receive<R: Wait>(
-    rt: &R,
+fn receive(
+    rt: &impl Host,
     slots: &mut Slots,
     receiver: &mut Receiver<Item>,
     most: usize,
     moves: bool,
-) -> Result<usize, anyhow::Error> {
+) -> anyhow::Result<usize> {
     let (mut came, mut slot) = (0usize, 0usize);
     for _ in rt.forever() {
         match receiver.poll_next(slots.waker(slot)) {
@@ -70,7 +69,7 @@ fn receive<R: Wait>(
     Ok(came)
 }
 
-fn wanted(came: usize, items: usize) -> Result<(), anyhow::Error> {
+fn wanted(came: usize, items: usize) -> anyhow::Result<()> {
     if came != items {
         bail!("{came} of {items} items came");
     }
@@ -78,11 +77,7 @@ fn wanted(came: usize, items: usize) -> Result<(), anyhow::Error> {
 }
 
 /// So many items through so many places, then the sender goes: all come, in order, and then the end.
-pub fn sender_goes<R: Threads + Wait + AllocGlobal>(
-    rt: &R,
-    places: usize,
-    items: usize,
-) -> Result<(), anyhow::Error> {
+pub fn sender_goes(rt: &impl Host, places: usize, items: usize) -> anyhow::Result<()> {
     let alloc = rt.alloc();
     let mut slots = Slots::new(alloc)?;
     let (sender, mut receiver) = channel::<Item>(alloc, places)?;
@@ -93,11 +88,7 @@ pub fn sender_goes<R: Threads + Wait + AllocGlobal>(
 }
 
 /// The same where the sender finishes, and what it left shows afterwards that nothing is to come.
-pub fn sender_finishes<R: Threads + Wait + AllocGlobal>(
-    rt: &R,
-    places: usize,
-    items: usize,
-) -> Result<(), anyhow::Error> {
+pub fn sender_finishes(rt: &impl Host, places: usize, items: usize) -> anyhow::Result<()> {
     let alloc = rt.alloc();
     let mut slots = Slots::new(alloc)?;
     let (sender, mut receiver) = channel::<Item>(alloc, places)?;
@@ -116,12 +107,12 @@ pub fn sender_finishes<R: Threads + Wait + AllocGlobal>(
 
 /// The same where the sender stays: no wake of its going makes up for one that was lost. Where the receiver moves, its
 /// second waker is that of another slot.
-pub fn sender_stays<R: Threads + Wait + AllocGlobal>(
-    rt: &R,
+pub fn sender_stays(
+    rt: &impl Host,
     places: usize,
     items: usize,
     moves: bool,
-) -> Result<(), anyhow::Error> {
+) -> anyhow::Result<()> {
     let alloc = rt.alloc();
     let mut slots = Slots::new(alloc)?;
     let (sender, mut receiver) = channel::<Item>(alloc, places)?;
@@ -135,7 +126,7 @@ pub fn sender_stays<R: Threads + Wait + AllocGlobal>(
 }
 
 /// A poll waits for one item or finds it: the slot is marked once at most, by the sending or by the next one.
-pub fn marks_once<R: Threads + Wait + AllocGlobal>(rt: &R) -> Result<(), anyhow::Error> {
+pub fn marks_once(rt: &impl Host) -> anyhow::Result<()> {
     let alloc = rt.alloc();
     let mut slots = Slots::new(alloc)?;
     let (sender, mut receiver) = channel::<Item>(alloc, 2)?;
@@ -153,12 +144,12 @@ pub fn marks_once<R: Threads + Wait + AllocGlobal>(rt: &R) -> Result<(), anyhow:
 }
 
 /// The receiver goes after so many items, while others are sent: nothing is left of those that did not come.
-pub fn receiver_goes<R: Threads + Wait + AllocGlobal>(
-    rt: &R,
+pub fn receiver_goes(
+    rt: &impl Host,
     places: usize,
     items: usize,
     most: usize,
-) -> Result<(), anyhow::Error> {
+) -> anyhow::Result<()> {
     let alloc = rt.alloc();
     let mut slots = Slots::new(alloc)?;
     let (sender, mut receiver) = channel::<Item>(alloc, places)?;
@@ -175,10 +166,7 @@ pub fn receiver_goes<R: Threads + Wait + AllocGlobal>(
 
 /// The sender looks whether the receiver is gone, until it is; the receiver has polled and goes. Afterwards a sending
 /// is refused.
-pub fn sender_looks<R: Threads + Wait + AllocGlobal>(
-    rt: &R,
-    places: usize,
-) -> Result<(), anyhow::Error> {
+pub fn sender_looks(rt: &impl Host, places: usize) -> anyhow::Result<()> {
     let alloc = rt.alloc();
     let slots = Slots::new(alloc)?;
     let (mut sender, mut receiver) = channel::<Item>(alloc, places)?;
@@ -216,10 +204,7 @@ impl Stream for Counted {
 }
 
 /// Two channels in a merge that a task polls: all items of both come.
-pub fn merged<R>(rt: &R, places: usize, items: usize) -> Result<(), anyhow::Error>
-where
-    R: Threads + Wait + RandomSource + AllocGlobal,
-{
+pub fn merged(rt: &impl Host, places: usize, items: usize) -> anyhow::Result<()> {
     let alloc = rt.alloc();
     let task = MockTask::new(rt)?;
     let (one, first) = channel::<Item>(alloc, places)?;
@@ -234,10 +219,7 @@ where
 }
 
 /// A channel in a merge that a task polls, while the sender sends and goes.
-pub fn merged_alone<R>(rt: &R, places: usize, items: usize) -> Result<(), anyhow::Error>
-where
-    R: Threads + Wait + RandomSource + AllocGlobal,
-{
+pub fn merged_alone(rt: &impl Host, places: usize, items: usize) -> anyhow::Result<()> {
     let alloc = rt.alloc();
     let task = MockTask::new(rt)?;
     let (one, first) = channel::<Item>(alloc, places)?;

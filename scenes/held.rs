@@ -1,31 +1,27 @@
 //! Sets, queues and merges whose futures threads wake while they are polled, pushed to, cleared and dropped.
+use crate::Host;
 use crate::awaited::{
-    Awaited, Post, new_awaited, take_waker, wake_by, wake_from_thread, wake_often,
+    Post, new_awaited, several, take_waker, wake_all, wake_by, wake_from_thread, wake_often,
 };
 use crate::holders::Holder;
+use crate::numbers::join_threads;
 use crate::tasks::{drain, wait_for};
 use anyhow::bail;
 use futures::executor::block_on;
 use futures::task::Poll;
 use futures::test::MockTask;
 use futures::{Stream, StreamExt};
-use std::alloc::{AllocGlobal, Global};
-use std::random::RandomSource;
-use std::sync::{Arc, Wait};
-use std::thread::{JoinHandle, Threads};
+use std::alloc::Global;
+use std::sync::Arc;
+use std::thread::JoinHandle;
 
-// So many futures, numbered from 0, each of which waits for so many wakes, and their posts.
+// What holds so many futures, each of which waits for so many wakes, and their posts.
 fn hold<H: Holder>(
     alloc: Global,
     count: usize,
     wakes: usize,
-) -> Result<(H, Vec<Arc<Post>>), anyhow::Error> {
-    let (mut held, mut posts): (Vec<Awaited>, Vec<Arc<Post>>) = (Vec::new(alloc), Vec::new(alloc));
-    for number in 0..count {
-        let (future, post) = new_awaited(alloc, number, wakes)?;
-        let _ = held.push(future);
-        let _ = posts.push(post);
-    }
+) -> anyhow::Result<(H, Vec<Arc<Post>>)> {
+    let (held, posts) = several(alloc, count, wakes)?;
     Ok((H::over(alloc, held)?, posts))
 }
 
@@ -33,23 +29,19 @@ fn poll_once<H: Holder>(task: &MockTask, holder: &mut H) -> Poll<Option<usize>> 
     task.enter(|cx| holder.poll_next(cx))
 }
 
-// Starts a thread for each post, which wakes so often.
-fn wake_all<R: Threads + AllocGlobal>(
-    rt: &R,
-    posts: &Vec<Arc<Post>>,
+// So many futures in what holds them, which was polled once, their posts, and threads that wake each of them, `late`
+// times more than it waits for.
+fn begin<H: Holder>(
+    rt: &impl Host,
+    task: &MockTask,
+    count: usize,
     wakes: usize,
-) -> Result<Vec<JoinHandle<()>>, anyhow::Error> {
-    let mut threads: Vec<JoinHandle<()>> = Vec::new(rt.alloc());
-    for post in posts.iter() {
-        let _ = threads.push(wake_from_thread(rt, post, wakes)?);
-    }
-    Ok(threads)
-}
-
-fn join_all<R: Threads>(rt: &R, threads: Vec<JoinHandle<()>>) {
-    for thread in threads {
-        thread.join(rt);
-    }
+    late: usize,
+) -> anyhow::Result<(H, Vec<Arc<Post>>, Vec<JoinHandle<()>>)> {
+    let (mut holder, posts): (H, Vec<Arc<Post>>) = hold(rt.alloc(), count, wakes)?;
+    let _pending = poll_once(task, &mut holder);
+    let threads = wake_all(rt, &posts, wakes + late)?;
+    Ok((holder, posts, threads))
 }
 
 // Whether each number came once, in order where there is one.
@@ -63,21 +55,16 @@ fn is_right<H: Holder>(count: usize, came: usize) -> bool {
 
 /// A thread for each future wakes it so often, and makes some wakes more when it is done. The task polls until all has
 /// ended: each output comes once.
-pub fn polled<H: Holder, R>(
-    rt: &R,
+pub fn polled<H: Holder>(
+    rt: &impl Host,
     count: usize,
     wakes: usize,
     late: usize,
-) -> Result<(), anyhow::Error>
-where
-    R: Threads + Wait + RandomSource + AllocGlobal,
-{
+) -> anyhow::Result<()> {
     let task = MockTask::new(rt)?;
-    let (mut holder, posts): (H, Vec<Arc<Post>>) = hold(rt.alloc(), count, wakes)?;
-    let _pending = poll_once(&task, &mut holder);
-    let threads = wake_all(rt, &posts, wakes + late)?;
+    let (mut holder, _posts, threads) = begin::<H>(rt, &task, count, wakes, late)?;
     let came = drain(rt, &task, &mut holder);
-    join_all(rt, threads);
+    join_threads(rt, threads);
     if !is_right::<H>(count, came) {
         bail!("{came} came");
     }
@@ -85,16 +72,11 @@ where
 }
 
 /// The same under `block_on`.
-pub fn blocked<H: Holder, R>(rt: &R, count: usize, wakes: usize) -> Result<(), anyhow::Error>
-where
-    R: Threads + Wait + RandomSource + AllocGlobal,
-{
+pub fn blocked<H: Holder>(rt: &impl Host, count: usize, wakes: usize) -> anyhow::Result<()> {
     let task = MockTask::new(rt)?;
-    let (mut holder, posts): (H, Vec<Arc<Post>>) = hold(rt.alloc(), count, wakes)?;
-    let _pending = poll_once(&task, &mut holder);
-    let threads = wake_all(rt, &posts, wakes)?;
+    let (holder, _posts, threads) = begin::<H>(rt, &task, count, wakes, 0)?;
     let came = block_on(rt, holder.collect(rt.alloc()))??;
-    join_all(rt, threads);
+    join_threads(rt, threads);
     if came.len() != count {
         bail!("{} outputs came", came.len());
     }
@@ -103,16 +85,11 @@ where
 
 /// One task has polled, and another goes on while a wake is under way: all outputs come to it, and the first task is
 /// woken, since nobody keeps its waker.
-pub fn moved<H: Holder, R>(rt: &R, count: usize, wakes: usize) -> Result<(), anyhow::Error>
-where
-    R: Threads + Wait + RandomSource + AllocGlobal,
-{
+pub fn moved<H: Holder>(rt: &impl Host, count: usize, wakes: usize) -> anyhow::Result<()> {
     let (first, other) = (MockTask::new(rt)?, MockTask::new(rt)?);
-    let (mut holder, posts): (H, Vec<Arc<Post>>) = hold(rt.alloc(), count, wakes)?;
-    let _pending = poll_once(&first, &mut holder);
-    let threads = wake_all(rt, &posts, wakes)?;
+    let (mut holder, _posts, threads) = begin::<H>(rt, &first, count, wakes, 0)?;
     let came = drain(rt, &other, &mut holder);
-    join_all(rt, threads);
+    join_threads(rt, threads);
     if !is_right::<H>(count, came) {
         bail!("{came} came");
     }
@@ -123,16 +100,11 @@ where
 }
 
 /// The holder goes while its futures are woken. The task is woken, by a wake or as its waker goes.
-pub fn dropped<H: Holder, R>(rt: &R, count: usize, wakes: usize) -> Result<(), anyhow::Error>
-where
-    R: Threads + Wait + RandomSource + AllocGlobal,
-{
+pub fn dropped<H: Holder>(rt: &impl Host, count: usize, wakes: usize) -> anyhow::Result<()> {
     let task = MockTask::new(rt)?;
-    let (mut holder, posts): (H, Vec<Arc<Post>>) = hold(rt.alloc(), count, wakes)?;
-    let _pending = poll_once(&task, &mut holder);
-    let threads = wake_all(rt, &posts, wakes)?;
+    let (holder, _posts, threads) = begin::<H>(rt, &task, count, wakes, 0)?;
     drop(holder);
-    join_all(rt, threads);
+    join_threads(rt, threads);
     if !task.is_woken() {
         bail!("the task sleeps");
     }
@@ -140,15 +112,12 @@ where
 }
 
 // Puts in a future of this number, which is pending, and starts the thread that wakes it.
-fn put_and_wake<H: Holder, R>(
-    rt: &R,
+fn put_and_wake<H: Holder>(
+    rt: &impl Host,
     task: &MockTask,
     holder: &mut H,
     number: usize,
-) -> Result<JoinHandle<()>, anyhow::Error>
-where
-    R: Threads + Wait + AllocGlobal,
-{
+) -> anyhow::Result<JoinHandle<()>> {
     let (future, post) = new_awaited(rt.alloc(), number, 1)?;
     holder.put(future);
     for _ in rt.forever() {
@@ -164,18 +133,13 @@ where
 }
 
 /// All is cleared while wakes are under way, and a future more is put in: of that alone an output comes.
-pub fn cleared<H: Holder, R>(rt: &R, count: usize, wakes: usize) -> Result<(), anyhow::Error>
-where
-    R: Threads + Wait + RandomSource + AllocGlobal,
-{
+pub fn cleared<H: Holder>(rt: &impl Host, count: usize, wakes: usize) -> anyhow::Result<()> {
     let task = MockTask::new(rt)?;
-    let (mut holder, posts): (H, Vec<Arc<Post>>) = hold(rt.alloc(), count, wakes)?;
-    let _pending = poll_once(&task, &mut holder);
-    let threads = wake_all(rt, &posts, wakes)?;
+    let (mut holder, _posts, threads) = begin::<H>(rt, &task, count, wakes, 0)?;
     holder.empty();
     let last = put_and_wake(rt, &task, &mut holder, 4)?;
     let came = drain(rt, &task, &mut holder);
-    join_all(rt, threads);
+    join_threads(rt, threads);
     last.join(rt);
     if came != 5 {
         bail!("{came} came");
@@ -185,14 +149,9 @@ where
 
 /// A future has given its output, and its waker still wakes, while another future stands in its slot: that gives its
 /// own output, after its own wake.
-pub fn replaced<H: Holder, R>(rt: &R, late: usize) -> Result<(), anyhow::Error>
-where
-    R: Threads + Wait + RandomSource + AllocGlobal,
-{
+pub fn replaced<H: Holder>(rt: &impl Host, late: usize) -> anyhow::Result<()> {
     let task = MockTask::new(rt)?;
-    let (mut holder, posts): (H, Vec<Arc<Post>>) = hold(rt.alloc(), 1, 1)?;
-    let _pending = poll_once(&task, &mut holder);
-    let threads = wake_all(rt, &posts, 1 + late)?;
+    let (mut holder, _posts, threads) = begin::<H>(rt, &task, 1, 1, late)?;
     for _ in rt.forever() {
         if poll_once(&task, &mut holder) == Poll::Ready(Some(0)) {
             break;
@@ -201,7 +160,7 @@ where
     }
     let last = put_and_wake(rt, &task, &mut holder, 4)?;
     let came = drain(rt, &task, &mut holder);
-    join_all(rt, threads);
+    join_threads(rt, threads);
     last.join(rt);
     if came != 5 {
         bail!("{came} came");
@@ -211,10 +170,7 @@ where
 
 /// Of two futures a thread wakes the first alone, and the second is woken once the output of the first has come: no
 /// wake of the second makes up for one of the first that is lost.
-pub fn one_by_one<H: Holder, R>(rt: &R, wakes: usize) -> Result<(), anyhow::Error>
-where
-    R: Threads + Wait + RandomSource + AllocGlobal,
-{
+pub fn one_by_one<H: Holder>(rt: &impl Host, wakes: usize) -> anyhow::Result<()> {
     let task = MockTask::new(rt)?;
     let (mut holder, posts): (H, Vec<Arc<Post>>) = hold(rt.alloc(), 2, wakes)?;
     let _pending = poll_once(&task, &mut holder);
@@ -240,14 +196,9 @@ where
 
 /// A future is pushed while a wake of the one before it is under way. In what grows it makes a second group, beside the
 /// first.
-pub fn grown<H: Holder, R>(rt: &R) -> Result<(), anyhow::Error>
-where
-    R: Threads + Wait + RandomSource + AllocGlobal,
-{
+pub fn grown<H: Holder>(rt: &impl Host) -> anyhow::Result<()> {
     let task = MockTask::new(rt)?;
-    let (mut holder, posts): (H, Vec<Arc<Post>>) = hold(rt.alloc(), 1, 1)?;
-    let _pending = poll_once(&task, &mut holder);
-    let threads = wake_all(rt, &posts, 1)?;
+    let (mut holder, _posts, threads) = begin::<H>(rt, &task, 1, 1, 0)?;
     let (future, post) = new_awaited(rt.alloc(), 1, 1)?;
     holder.put(future);
     let (mut came, mut second) = (0usize, None);
@@ -261,7 +212,7 @@ where
             },
         }
     }
-    join_all(rt, threads);
+    join_threads(rt, threads);
     if let Some(second) = second {
         second.join(rt);
     }

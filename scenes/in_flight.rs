@@ -1,23 +1,18 @@
 //! Futures of the kit in flight that threads complete.
-use crate::numbers::{Number, join_all, number_to_come, send_from_thread, wanted};
+use crate::Host;
+use crate::numbers::{Number, join_threads, number_to_come, send_from_thread, wanted};
 use crate::tasks::drain;
 use futures::Stream;
 use futures::task::Poll;
 use futures::test::MockTask;
 use futures_buffered::in_flight::FuturesUnorderedBounded;
-use std::alloc::AllocGlobal;
-use std::random::RandomSource;
-use std::sync::Wait;
-use std::thread::{JoinHandle, Threads};
+use std::thread::JoinHandle;
 
 // A set of so many, none of which was polled, and the threads that send their numbers.
-fn begin<R>(
-    rt: &R,
+fn begin(
+    rt: &impl Host,
     count: usize,
-) -> Result<(FuturesUnorderedBounded<Number>, Vec<JoinHandle<()>>), anyhow::Error>
-where
-    R: Threads + AllocGlobal,
-{
+) -> anyhow::Result<(FuturesUnorderedBounded<Number>, Vec<JoinHandle<()>>)> {
     let mut set = FuturesUnorderedBounded::new(rt.alloc(), count)?;
     let mut threads: Vec<JoinHandle<()>> = Vec::new(rt.alloc());
     for place in 0..count {
@@ -29,14 +24,11 @@ where
 }
 
 /// A thread for each future sends its number, while a task polls the set until it ends: each comes once.
-pub fn polled<R>(rt: &R, count: usize) -> Result<(), anyhow::Error>
-where
-    R: Threads + Wait + RandomSource + AllocGlobal,
-{
+pub fn polled(rt: &impl Host, count: usize) -> anyhow::Result<()> {
     let task = MockTask::new(rt)?;
     let (mut set, threads) = begin(rt, count)?;
     let came = drain(rt, &task, &mut set);
-    join_all(rt, threads);
+    join_threads(rt, threads);
     if count == 1 {
         wanted(came, 1, 1)
     } else {
@@ -46,10 +38,7 @@ where
 
 /// The set is cleared after so many polls, while the sendings are under way, and a future more is put in: of that alone
 /// an output comes.
-pub fn cleared<R>(rt: &R, count: usize, polls: usize) -> Result<(), anyhow::Error>
-where
-    R: Threads + Wait + RandomSource + AllocGlobal,
-{
+pub fn cleared(rt: &impl Host, count: usize, polls: usize) -> anyhow::Result<()> {
     let task = MockTask::new(rt)?;
     let (mut set, threads) = begin(rt, count)?;
     for _ in 0..polls {
@@ -60,17 +49,14 @@ where
     let _key = set.try_push(number).ok();
     let last = send_from_thread(rt, sender, 4)?;
     let came = drain(rt, &task, &mut set);
-    join_all(rt, threads);
+    join_threads(rt, threads);
     last.join(rt);
     wanted(came, 5, 5)
 }
 
 /// One of two is cancelled after so many polls, while both sendings are under way: it comes before that or not at all,
 /// and the other comes once.
-pub fn cancelled<R>(rt: &R, polls: usize) -> Result<(), anyhow::Error>
-where
-    R: Threads + Wait + RandomSource + AllocGlobal,
-{
+pub fn cancelled(rt: &impl Host, polls: usize) -> anyhow::Result<()> {
     let task = MockTask::new(rt)?;
     let mut set = FuturesUnorderedBounded::new(rt.alloc(), 2)?;
     let (first, number) = number_to_come(rt.alloc())?;

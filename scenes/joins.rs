@@ -1,5 +1,7 @@
 //! Joins whose futures threads wake.
-use crate::awaited::{Awaited, Post, new_awaited, wake_from_thread};
+use crate::Host;
+use crate::awaited::{Awaited, Post, several, wake_all};
+use crate::numbers::join_threads;
 use crate::tasks::wait_for;
 use anyhow::bail;
 use futures::Future;
@@ -9,10 +11,8 @@ use futures_buffered::SlotFuture;
 use futures_buffered_core::ready_shared::SharedWaker;
 use futures_buffered_joins::join::join_all;
 use futures_buffered_joins::try_join::try_join_all;
-use std::alloc::{AllocError, AllocGlobal, Global};
-use std::random::RandomSource;
-use std::sync::{Arc, Wait};
-use std::thread::{JoinHandle, Threads};
+use std::alloc::Global;
+use std::sync::Arc;
 
 // Fails with its number where that is the one to fail.
 #[derive(Drop)]
@@ -33,20 +33,6 @@ impl SlotFuture<SharedWaker> for Attempt {
     }
 }
 
-fn futures(
-    alloc: Global,
-    count: usize,
-    wakes: usize,
-) -> Result<(Vec<Awaited>, Vec<Arc<Post>>), AllocError> {
-    let (mut held, mut posts): (Vec<Awaited>, Vec<Arc<Post>>) = (Vec::new(alloc), Vec::new(alloc));
-    for number in 0..count {
-        let (future, post) = new_awaited(alloc, number, wakes)?;
-        let _ = held.push(future);
-        let _ = posts.push(post);
-    }
-    Ok((held, posts))
-}
-
 fn attempts(alloc: Global, futures: Vec<Awaited>, fails: usize) -> Vec<Attempt> {
     let mut attempts: Vec<Attempt> = Vec::new(alloc);
     for future in futures {
@@ -56,26 +42,18 @@ fn attempts(alloc: Global, futures: Vec<Awaited>, fails: usize) -> Vec<Attempt> 
 }
 
 // The first poll, threads that wake the futures, and polls until the join is done.
-fn complete<R, F: Future<Output: Drop>>(
-    rt: &R,
+fn complete<F: Future<Output: Drop>>(
+    rt: &impl Host,
     task: &MockTask,
     join: &mut F,
     posts: &Vec<Arc<Post>>,
     wakes: usize,
-) -> Result<F::Output, anyhow::Error>
-where
-    R: Threads + Wait + AllocGlobal,
-{
+) -> anyhow::Result<F::Output> {
     let _pending = task.poll(join).is_ready();
-    let mut threads: Vec<JoinHandle<()>> = Vec::new(rt.alloc());
-    for post in posts.iter() {
-        let _ = threads.push(wake_from_thread(rt, post, wakes)?);
-    }
+    let threads = wake_all(rt, posts, wakes)?;
     for _ in rt.forever() {
         if let Poll::Ready(answer) = task.poll(join) {
-            for thread in threads {
-                thread.join(rt);
-            }
+            join_threads(rt, threads);
             return Ok(answer);
         }
         wait_for(rt, task);
@@ -84,12 +62,9 @@ where
 }
 
 /// A thread for each future wakes it. The join gives each output at its place.
-pub fn join<R>(rt: &R, count: usize, wakes: usize) -> Result<(), anyhow::Error>
-where
-    R: Threads + Wait + RandomSource + AllocGlobal,
-{
+pub fn join(rt: &impl Host, count: usize, wakes: usize) -> anyhow::Result<()> {
     let task = MockTask::new(rt)?;
-    let (held, posts) = futures(rt.alloc(), count, wakes)?;
+    let (held, posts) = several(rt.alloc(), count, wakes)?;
     let mut join = join_all(rt.alloc(), held)?;
     let outputs = complete(rt, &task, &mut join, &posts, wakes)?;
     for place in 0..count {
@@ -102,12 +77,9 @@ where
 
 /// A thread for each future wakes it, and the future of one number fails: the join answers its error, and drops the
 /// others while their wakes may be under way.
-pub fn try_join<R>(rt: &R, count: usize, fails: usize) -> Result<(), anyhow::Error>
-where
-    R: Threads + Wait + RandomSource + AllocGlobal,
-{
+pub fn try_join(rt: &impl Host, count: usize, fails: usize) -> anyhow::Result<()> {
     let task = MockTask::new(rt)?;
-    let (held, posts) = futures(rt.alloc(), count, 1)?;
+    let (held, posts) = several(rt.alloc(), count, 1)?;
     let mut join = try_join_all(rt.alloc(), attempts(rt.alloc(), held, fails))?;
     let answer = complete(rt, &task, &mut join, &posts, 1)?;
     match answer {

@@ -28,6 +28,11 @@ use std::random::RandomSource;
 use std::sync::Wait;
 use std::thread::Threads;
 
+/// What scenes need of the machine.
+pub trait Host: Threads + Wait + RandomSource + AllocGlobal {}
+
+impl<R: Threads + Wait + RandomSource + AllocGlobal> Host for R {}
+
 // The scene, its kind where it is one of sets and their like, and its numbers.
 #[derive(Drop)]
 struct Asked {
@@ -36,7 +41,7 @@ struct Asked {
     numbers: [usize; 3],
 }
 
-fn read_words<R: Env + AllocGlobal>(rt: &R) -> Result<Asked, anyhow::Error> {
+fn read_words(rt: &(impl Env + AllocGlobal)) -> anyhow::Result<Asked> {
     let mut words = env::args(rt)?;
     words.next();
     let Some(scene) = words.next() else {
@@ -60,46 +65,40 @@ fn read_words<R: Env + AllocGlobal>(rt: &R) -> Result<Asked, anyhow::Error> {
     })
 }
 
-fn held_scene<H: Holder, R>(
-    rt: &R,
+fn held_scene<H: Holder>(
+    rt: &impl Host,
     scene: &str,
     a: usize,
     b: usize,
     c: usize,
-) -> Result<(), anyhow::Error>
-where
-    R: Threads + Wait + RandomSource + AllocGlobal,
-{
+) -> anyhow::Result<()> {
     match scene {
-        "polled" => held::polled::<H, R>(rt, a, b, c),
-        "blocked" => held::blocked::<H, R>(rt, a, b),
-        "moved" => held::moved::<H, R>(rt, a, b),
-        "dropped" => held::dropped::<H, R>(rt, a, b),
-        "cleared" => held::cleared::<H, R>(rt, a, b),
-        "replaced" => held::replaced::<H, R>(rt, a),
-        "one_by_one" => held::one_by_one::<H, R>(rt, a),
-        "grown" => held::grown::<H, R>(rt),
+        "polled" => held::polled::<H>(rt, a, b, c),
+        "blocked" => held::blocked::<H>(rt, a, b),
+        "moved" => held::moved::<H>(rt, a, b),
+        "dropped" => held::dropped::<H>(rt, a, b),
+        "cleared" => held::cleared::<H>(rt, a, b),
+        "replaced" => held::replaced::<H>(rt, a),
+        "one_by_one" => held::one_by_one::<H>(rt, a),
+        "grown" => held::grown::<H>(rt),
         _ => bail!("there is no such scene"),
     }
 }
 
-fn scene_of_kind<R>(rt: &R, asked: &Asked) -> Result<(), anyhow::Error>
-where
-    R: Threads + Wait + RandomSource + AllocGlobal,
-{
+fn scene_of_kind(rt: &impl Host, asked: &Asked) -> anyhow::Result<()> {
     let (scene, [a, b, c]) = (asked.scene.as_str(), asked.numbers);
     match asked.kind.as_str() {
-        "set" => held_scene::<Set, R>(rt, scene, a, b, c),
-        "growing_set" => held_scene::<GrowingSet, R>(rt, scene, a, b, c),
-        "queue" => held_scene::<Queue, R>(rt, scene, a, b, c),
-        "growing_queue" => held_scene::<GrowingQueue, R>(rt, scene, a, b, c),
-        "merge" => held_scene::<Merge, R>(rt, scene, a, b, c),
-        "growing_merge" => held_scene::<GrowingMerge, R>(rt, scene, a, b, c),
+        "set" => held_scene::<Set>(rt, scene, a, b, c),
+        "growing_set" => held_scene::<GrowingSet>(rt, scene, a, b, c),
+        "queue" => held_scene::<Queue>(rt, scene, a, b, c),
+        "growing_queue" => held_scene::<GrowingQueue>(rt, scene, a, b, c),
+        "merge" => held_scene::<Merge>(rt, scene, a, b, c),
+        "growing_merge" => held_scene::<GrowingMerge>(rt, scene, a, b, c),
         _ => bail!("there is no such scene"),
     }
 }
 
-fn main(rt: HostRuntime) -> Result<(), anyhow::Error> {
+fn main(rt: HostRuntime) -> anyhow::Result<()> {
     let asked = read_words(&rt)?;
     let [a, b, c] = asked.numbers;
     match asked.scene.as_str() {

@@ -1,10 +1,11 @@
 //! Futures of the kit that threads complete.
+use crate::Host;
 use anyhow::bail;
-use futures::channel::oneshot;
 use futures::Future;
+use futures::channel::oneshot;
 use futures::task::{Context, Poll};
 use std::alloc::{AllocError, Global};
-use std::thread::{self, JoinHandle, Threads};
+use std::thread::{self, JoinHandle};
 
 pub type Sender = oneshot::Sender<usize>;
 
@@ -31,24 +32,24 @@ pub fn number_to_come(alloc: Global) -> Result<(Sender, Number), AllocError> {
     Ok((sender, Number { inner }))
 }
 
-pub fn send_from_thread<R: Threads>(
-    rt: &R,
+pub fn send_from_thread(
+    rt: &impl Host,
     sender: Sender,
     number: usize,
-) -> Result<JoinHandle<()>, anyhow::Error> {
+) -> anyhow::Result<JoinHandle<()>> {
     let send = move || {
         let _ = sender.send(number);
     };
     Ok(thread::spawn(rt, send)?)
 }
 
-pub fn join_all<R: Threads>(rt: &R, threads: Vec<JoinHandle<()>>) {
+pub fn join_threads(rt: &impl Host, threads: Vec<JoinHandle<()>>) {
     for thread in threads {
         thread.join(rt);
     }
 }
 
-pub fn wanted(came: usize, either: usize, or: usize) -> Result<(), anyhow::Error> {
+pub fn wanted(came: usize, either: usize, or: usize) -> anyhow::Result<()> {
     if came != either && came != or {
         bail!("{came} came");
     }

@@ -1,13 +1,12 @@
 //! A one-shot whose sender is on a thread, and whose receiver is polled meanwhile.
+use crate::Host;
 use crate::slots::Slots;
 use anyhow::bail;
 use futures::task::Poll;
 use futures_buffered::SlotFuture;
 use futures_buffered_core::ready_core::Taken;
 use futures_buffered_held::oneshot::{Canceled, Receiver, channel};
-use std::alloc::AllocGlobal;
-use std::sync::Wait;
-use std::thread::{self, JoinHandle, Threads};
+use std::thread::{self, JoinHandle};
 
 const VALUE: u64 = 7;
 
@@ -36,7 +35,7 @@ fn answer_after(
     receiver: &mut Receiver<Box<u64>>,
     polls: usize,
     last: usize,
-) -> Result<Answer, anyhow::Error> {
+) -> anyhow::Result<Answer> {
     let (first, second) = (slots.source.take(), slots.source.take());
     if polls > 0 && first != Taken::Slot(last) && second != Taken::Slot(last) {
         bail!("no wake of the slot of the last poll");
@@ -48,14 +47,14 @@ fn answer_after(
 }
 
 // Polls while the sender acts on its thread, and afterwards. Returns the answer, and what the thread gives.
-fn receive<R: Threads, T: Drop>(
-    rt: &R,
+fn receive<T: Drop>(
+    rt: &impl Host,
     slots: &mut Slots,
     receiver: &mut Receiver<Box<u64>>,
     thread: JoinHandle<T>,
     polls: usize,
     last: usize,
-) -> Result<(Answer, T), anyhow::Error> {
+) -> anyhow::Result<(Answer, T)> {
     let answer = poll_often(slots, receiver, polls, last);
     let given = thread.join(rt);
     match answer {
@@ -73,11 +72,7 @@ fn is_value(answer: &Answer) -> bool {
 
 /// The sender sends while the receiver is polled, the last time with the waker of slot `last`: the value comes, and
 /// that slot is woken.
-pub fn sent<R: Threads + Wait + AllocGlobal>(
-    rt: &R,
-    polls: usize,
-    last: usize,
-) -> Result<(), anyhow::Error> {
+pub fn sent(rt: &impl Host, polls: usize, last: usize) -> anyhow::Result<()> {
     let mut slots = Slots::new(rt.alloc())?;
     let (sender, mut receiver) = channel::<Box<u64>>(rt.alloc())?;
     let value = Box::new(rt.alloc(), VALUE)?;
@@ -90,10 +85,7 @@ pub fn sent<R: Threads + Wait + AllocGlobal>(
 }
 
 /// The same with a receipt, which shows afterwards that what came is what was sent.
-pub fn sent_with_receipt<R: Threads + Wait + AllocGlobal>(
-    rt: &R,
-    polls: usize,
-) -> Result<(), anyhow::Error> {
+pub fn sent_with_receipt(rt: &impl Host, polls: usize) -> anyhow::Result<()> {
     let mut slots = Slots::new(rt.alloc())?;
     let (sender, mut receiver) = channel::<Box<u64>>(rt.alloc())?;
     let value = Box::new(rt.alloc(), VALUE)?;
@@ -110,11 +102,7 @@ pub fn sent_with_receipt<R: Threads + Wait + AllocGlobal>(
 }
 
 /// The sender goes, and has sent nothing: the receiver is told, and its slot is woken.
-pub fn sender_goes<R: Threads + Wait + AllocGlobal>(
-    rt: &R,
-    polls: usize,
-    last: usize,
-) -> Result<(), anyhow::Error> {
+pub fn sender_goes(rt: &impl Host, polls: usize, last: usize) -> anyhow::Result<()> {
     let mut slots = Slots::new(rt.alloc())?;
     let (sender, mut receiver) = channel::<Box<u64>>(rt.alloc())?;
     let thread = thread::spawn(rt, move || drop(sender))?;
@@ -127,10 +115,7 @@ pub fn sender_goes<R: Threads + Wait + AllocGlobal>(
 
 /// The receiver goes while the sender sends: the value came, or comes back, or is dropped with what both share. Nothing
 /// is left.
-pub fn receiver_goes<R: Threads + Wait + AllocGlobal>(
-    rt: &R,
-    polls: usize,
-) -> Result<(), anyhow::Error> {
+pub fn receiver_goes(rt: &impl Host, polls: usize) -> anyhow::Result<()> {
     let slots = Slots::new(rt.alloc())?;
     let (sender, mut receiver) = channel::<Box<u64>>(rt.alloc())?;
     let value = Box::new(rt.alloc(), VALUE)?;
@@ -145,10 +130,7 @@ pub fn receiver_goes<R: Threads + Wait + AllocGlobal>(
 }
 
 /// The sender looks whether the receiver is gone, and sends then. It is not, though it is polled meanwhile.
-pub fn sender_looks<R: Threads + Wait + AllocGlobal>(
-    rt: &R,
-    polls: usize,
-) -> Result<(), anyhow::Error> {
+pub fn sender_looks(rt: &impl Host, polls: usize) -> anyhow::Result<()> {
     let mut slots = Slots::new(rt.alloc())?;
     let (sender, mut receiver) = channel::<Box<u64>>(rt.alloc())?;
     let value = Box::new(rt.alloc(), VALUE)?;

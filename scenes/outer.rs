@@ -1,9 +1,10 @@
 //! What stands for the waker of a task, in the fewest steps.
+use crate::Host;
 use futures_buffered_core::ready_shared::OuterWaker;
 use std::alloc::{AllocError, Global};
+use std::sync::Arc;
 use std::sync::atomic::AtomicU64;
 use std::sync::atomic::Ordering::SeqCst;
-use std::sync::{Arc, Wait};
 
 /// Where somebody sleeps until a call of it.
 #[derive(Drop)]
@@ -36,7 +37,7 @@ impl Bed {
     }
 
     /// Sleeps until there was a call since the last sleep.
-    pub fn sleep<R: Wait>(&self, rt: &R) {
+    pub fn sleep(&self, rt: &impl Host) {
         for _ in rt.forever() {
             if self.called.load(SeqCst) != 0 {
                 self.called.store(0, SeqCst);

@@ -1,20 +1,19 @@
 //! The ready list, and the place of the task's waker, without a task.
+use crate::Host;
+use crate::numbers::join_threads;
 use crate::outer::{Bed, Caller};
 use crate::tally::{Tally, wake_often};
 use anyhow::bail;
 use futures_buffered_core::ready_core::{Taken, Woke};
 use futures_buffered_core::ready_shared::SharedReady;
 use futures_buffered_table::ready_table::{ReadyList, WakeSeat};
-use std::alloc::{AllocGlobal, Global};
-use std::sync::{Arc, Wait};
-use std::thread::{self, JoinHandle, Threads, yield_now};
+use std::alloc::Global;
+use std::sync::Arc;
+use std::thread::{self, JoinHandle, yield_now};
 
 /// Threads wake the slots of a source, in turn, each so often. Whoever takes sleeps where nothing is marked, and gets
 /// to know of the last wake of each slot.
-pub fn wakes<R>(rt: &R, slots: usize, threads: usize, wakes: usize) -> Result<(), anyhow::Error>
-where
-    R: Threads + Wait + AllocGlobal,
-{
+pub fn wakes(rt: &impl Host, slots: usize, threads: usize, wakes: usize) -> anyhow::Result<()> {
     let alloc = rt.alloc();
     let mut source: SharedReady<Caller> = SharedReady::new(alloc, slots)?;
     let bed = Bed::new(alloc)?;
@@ -27,18 +26,16 @@ where
         let _ = started.push(thread::spawn(rt, wake)?);
     }
     take_until_known(rt, &mut source, &bed, &mut tally)?;
-    for thread in started {
-        thread.join(rt);
-    }
+    join_threads(rt, started);
     Ok(())
 }
 
-fn take_until_known<R: Wait>(
-    rt: &R,
+fn take_until_known(
+    rt: &impl Host,
     source: &mut SharedReady<Caller>,
     bed: &Bed,
     tally: &mut Tally,
-) -> Result<(), anyhow::Error> {
+) -> anyhow::Result<()> {
     for _ in rt.forever() {
         source.set_outer(bed.caller()?);
         let paused = tally.take_all(source, 0);
@@ -54,10 +51,7 @@ fn take_until_known<R: Wait>(
 }
 
 /// One outer waker is kept, and another is put in its place while wakes are under way: the other is woken.
-pub fn outer_wakers<R>(rt: &R, wakes: usize) -> Result<(), anyhow::Error>
-where
-    R: Threads + Wait + AllocGlobal,
-{
+pub fn outer_wakers(rt: &impl Host, wakes: usize) -> anyhow::Result<()> {
     let alloc = rt.alloc();
     let mut source: SharedReady<Caller> = SharedReady::new(alloc, 1)?;
     let (before, bed) = (Bed::new(alloc)?, Bed::new(alloc)?);
@@ -102,10 +96,7 @@ fn take_often(
 /// Three seats over two slots: two threads wake both slots, in opposite orders, and the poller takes so often
 /// meanwhile. Afterwards as many slots are named as there were fresh wakes, and then none: no mark is lost, and none is
 /// there twice.
-pub fn seats<R>(rt: &R, takings: usize) -> Result<(), anyhow::Error>
-where
-    R: Threads + Wait + AllocGlobal,
-{
+pub fn seats(rt: &impl Host, takings: usize) -> anyhow::Result<()> {
     let alloc: Global = rt.alloc();
     let (list, mut poll, seat) = ReadyList::new(alloc, 2)?;
     let (one, other) = seat.split(&list);

@@ -11,7 +11,7 @@ pub struct Slots {
 }
 
 impl Slots {
-    pub fn new(alloc: Global) -> Result<Slots, anyhow::Error> {
+    pub fn new(alloc: Global) -> anyhow::Result<Slots> {
         let source: SharedReady = SharedReady::new(alloc, 2)?;
         let (first, second) = (source.try_waker(0)?, source.try_waker(1)?);
         Ok(Slots {

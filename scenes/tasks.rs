@@ -1,4 +1,6 @@
 //! A source that a task polls by hand.
+use crate::Host;
+use crate::numbers::join_threads;
 use crate::tally::{Tally, wake_often};
 use anyhow::bail;
 use futures::Stream;
@@ -6,13 +8,10 @@ use futures::task::Poll;
 use futures::test::MockTask;
 use futures_buffered_core::ready_shared::SharedReady;
 use futures_buffered_core::ready_source::{NewSource, ReadySource, SlotWaker};
-use std::alloc::AllocGlobal;
-use std::random::RandomSource;
-use std::sync::Wait;
-use std::thread::{self, JoinHandle, Threads, yield_now};
+use std::thread::{self, JoinHandle, yield_now};
 
 /// Waits until the task was woken since its last poll began.
-pub fn wait_for<R: Wait>(rt: &R, task: &MockTask) {
+pub fn wait_for(rt: &impl Host, task: &MockTask) {
     for _ in rt.forever() {
         let is_woken = task.is_woken();
         yield_now();
@@ -24,7 +23,7 @@ pub fn wait_for<R: Wait>(rt: &R, task: &MockTask) {
 
 /// Polls until the stream ends, and sleeps behind each pending poll. Returns what came, a digit for each number: one
 /// more than the number.
-pub fn drain<R: Wait, St: Stream<Item = usize>>(rt: &R, task: &MockTask, stream: &mut St) -> usize {
+pub fn drain<St: Stream<Item = usize>>(rt: &impl Host, task: &MockTask, stream: &mut St) -> usize {
     let mut came = 0usize;
     for _ in rt.forever() {
         match task.enter(|cx| stream.poll_next(cx)) {
@@ -36,14 +35,14 @@ pub fn drain<R: Wait, St: Stream<Item = usize>>(rt: &R, task: &MockTask, stream:
     came
 }
 
-fn start<R: Threads>(
-    rt: &R,
+fn start(
+    rt: &impl Host,
     source: &SharedReady,
     slot: usize,
     tally: &mut Tally,
     place: usize,
     wakes: usize,
-) -> Result<JoinHandle<()>, anyhow::Error> {
+) -> anyhow::Result<JoinHandle<()>> {
     let waker = source.try_waker(slot)?;
     let woken = tally.expect(place, wakes)?;
     Ok(thread::spawn(rt, move || wake_often(&woken, &waker, wakes))?)
@@ -57,7 +56,7 @@ fn poll_once(task: &MockTask, source: &mut SharedReady, tally: &mut Tally) -> bo
     })
 }
 
-fn poll_until_known<R: Wait>(rt: &R, task: &MockTask, source: &mut SharedReady, tally: &mut Tally) {
+fn poll_until_known(rt: &impl Host, task: &MockTask, source: &mut SharedReady, tally: &mut Tally) {
     for _ in rt.forever() {
         let paused = poll_once(task, source, tally);
         if tally.knows_all() {
@@ -73,10 +72,7 @@ fn poll_until_known<R: Wait>(rt: &R, task: &MockTask, source: &mut SharedReady, 
 
 /// Threads wake the slots of a source, in turn, each so often. The task that polls it gets to know of the last wake of
 /// each slot.
-pub fn task<R>(rt: &R, slots: usize, threads: usize, wakes: usize) -> Result<(), anyhow::Error>
-where
-    R: Threads + Wait + RandomSource + AllocGlobal,
-{
+pub fn task(rt: &impl Host, slots: usize, threads: usize, wakes: usize) -> anyhow::Result<()> {
     let alloc = rt.alloc();
     let mut source: SharedReady = SharedReady::new(alloc, slots)?;
     let task = MockTask::new(rt)?;
@@ -87,18 +83,13 @@ where
         let _ = started.push(start(rt, &source, slot, &mut tally, slot, wakes)?);
     }
     poll_until_known(rt, &task, &mut source, &mut tally);
-    for thread in started {
-        thread.join(rt);
-    }
+    join_threads(rt, started);
     Ok(())
 }
 
 /// One task has polled the source, and another polls it while wakes are under way. The other is woken, and the first
 /// too, since nobody keeps its waker then.
-pub fn other_task<R>(rt: &R, wakes: usize) -> Result<(), anyhow::Error>
-where
-    R: Threads + Wait + RandomSource + AllocGlobal,
-{
+pub fn other_task(rt: &impl Host, wakes: usize) -> anyhow::Result<()> {
     let alloc = rt.alloc();
     let mut source: SharedReady = SharedReady::new(alloc, 1)?;
     let (first, other) = (MockTask::new(rt)?, MockTask::new(rt)?);
@@ -114,10 +105,7 @@ where
 }
 
 /// The source goes while wakes are under way: they or its going wake the task.
-pub fn dropped_source<R>(rt: &R, wakes: usize) -> Result<(), anyhow::Error>
-where
-    R: Threads + Wait + RandomSource + AllocGlobal,
-{
+pub fn dropped_source(rt: &impl Host, wakes: usize) -> anyhow::Result<()> {
     let alloc = rt.alloc();
     let mut source: SharedReady = SharedReady::new(alloc, 1)?;
     let task = MockTask::new(rt)?;
@@ -134,10 +122,7 @@ where
 
 /// Two tasks on two threads poll two sources beside one another. The task here polls the first, or the second if `here`
 /// is not 0. The other task polls once, and wakes its own slot and then that of the task here, which learns of it.
-pub fn pollers<R>(rt: &R, here: usize) -> Result<(), anyhow::Error>
-where
-    R: Threads + Wait + RandomSource + AllocGlobal,
-{
+pub fn pollers(rt: &impl Host, here: usize) -> anyhow::Result<()> {
     let alloc = rt.alloc();
     let mut first: SharedReady = SharedReady::new(alloc, 1)?;
     let second = first.make_sibling(alloc, 1)?;
@@ -176,10 +161,7 @@ fn poll_to_a_name(task: &MockTask, source: &mut SharedReady) {
 
 /// A source is made beside another while wakes of that are under way. Then one task polls both, and registers with the
 /// first alone: it gets to know of the last wake of each. With `earlier` the second keeps the waker of an earlier poll.
-pub fn sibling<R>(rt: &R, wakes: usize, earlier: usize) -> Result<(), anyhow::Error>
-where
-    R: Threads + Wait + RandomSource + AllocGlobal,
-{
+pub fn sibling(rt: &impl Host, wakes: usize, earlier: usize) -> anyhow::Result<()> {
     let alloc = rt.alloc();
     let mut first: SharedReady = SharedReady::new(alloc, 1)?;
     let task = MockTask::new(rt)?;

@@ -9,7 +9,8 @@ import shlex
 import subprocess
 import sys
 
-ROOT = pathlib.Path(__file__).resolve().parent.parent
+from repository import ROOT
+
 CRATES = ROOT / "crates"
 SCRIPTS = CRATES / "fbuf" / "scripts"
 # A run that takes longer has not ended. The longest takes a tenth of a second, but for tests, which have as long as `rt` gives them.
@@ -51,53 +52,81 @@ def status_in(path):
     return int(bytes_of(path) or b"0")
 
 
-def limits_in(path):
-    """What the file limits, a line each, as `as 8388608` for RLIMIT_AS."""
-    lines = (line.split() for line in bytes_of(path).decode().splitlines())
-    return tuple((getattr(resource, f"RLIMIT_{what.upper()}"), int(most)) for what, most in lines)
+# What a line of a case may set, before a colon; its other lines are rows of the script.
+SETTINGS = ("words", "from", "limit", "to", "output", "errors", "status", "cut")
 
 
-def numbers_in(words):
-    """The numbers of a line `for N in`: each word is one, or a span as `0..599`, whose ends both count."""
-    for word in words:
-        first, _, last = word.partition("..")
-        yield from range(int(first), int(last or first) + 1)
+def bytes_in(lines):
+    """What lines of a case stand for, each with a line feed: a letter is one byte, and `\\x0d` is the byte of that number."""
+    return b"".join(line.encode("ascii").decode("unicode_escape").encode("latin-1") + b"\n" for line in lines)
 
 
-def made_by(path):
-    """The script and the replies that a file spells in short: its lines are `LINE => REPLY`, and those between `for N in NUMBERS` and an
-    empty line come once for each number, where a sum in braces, as `{N - 1}`, is worked out. A LINE alone has no reply."""
-    script, replies, numbers, block = [], [], [0], []
-    for line in [*path.read_text(encoding="utf-8").splitlines(), ""]:
-        if line.startswith("for N in "):
-            numbers = list(numbers_in(line.split()[3:]))
-        elif line:
-            block.append(line.partition(" => "))
-        else:
-            for number in numbers:
-                worked_out = lambda text: re.sub(r"\{(.*?)\}", lambda sum_: str(eval(sum_[1], {"N": number})), text)
-                script += [worked_out(line) for line, _, _ in block]
-                replies += [worked_out(reply) for _, arrow, reply in block if arrow]
-            numbers, block = [0], []
-    return ["".join(f"{line}\n" for line in lines).encode() for lines in (script, replies)]
+def limits_in(limits):
+    """What is limited, each as `as 8388608` for RLIMIT_AS."""
+    pairs = (limit.split() for limit in limits)
+    return tuple((getattr(resource, f"RLIMIT_{what.upper()}"), int(most)) for what, most in pairs)
+
+
+def values_in(text):
+    """The values of a row `for N in VALUES: ROW`: words as a shell reads them, and spans as `0..599`, whose ends both count."""
+    for word in shlex.split(text):
+        span = re.fullmatch(r"(\d+)(?:\.\.(\d+))?", word)
+        yield from range(int(span[1]), int(span[2] or span[1]) + 1) if span else [word]
+
+
+def rows_of(row):
+    """The rows that `for N in VALUES: ROW` stands for: a term in braces, as `{N - 1}`, is worked out. Another row stands for itself."""
+    found = re.fullmatch(r"for (\w+) in (.*?): (.*)", row)
+    if not found:
+        return [row]
+    name, values, repeated = found.groups()
+    return [re.sub(r"\{(.*?)\}", lambda term: str(eval(term[1], {name: value})), repeated) for value in values_in(values)]
+
+
+def parts_of(text):
+    """What the text lists between semicolons. `poll*3` is three."""
+    for part in text.split("; "):
+        found = re.fullmatch(r"(.*)\*(\d+)", part)
+        yield from [found[1]] * int(found[2]) if found else [part]
+
+
+def made_by(rows):
+    """The script and the replies that rows `LINE; LINE => REPLY; REPLY` stand for. With no arrow the lines have no replies."""
+    script, replies = [], []
+    for row in itertools.chain.from_iterable(map(rows_of, rows)):
+        lines, arrow, said = row.partition(" => ")
+        lines, said = list(parts_of(lines)), list(parts_of(said)) if arrow else []
+        if arrow and len(lines) != len(said):
+            sys.exit(f"{row}: there are {len(lines)} lines and {len(said)} replies")
+        script += lines
+        replies += said
+    return bytes_in(script), bytes_in(replies)
+
+
+def cases_in(path):
+    """Each case of a file: its name, what is set, and the rows of its script."""
+    for text in re.split(r"^# ", path.read_text(encoding="ascii"), flags=re.M)[1:]:
+        name, *lines = [line for line in text.split("\n") if line]
+        case, rows = {what: [] for what in SETTINGS}, []
+        for line in lines:
+            what, colon, value = line.partition(": ")
+            if colon and what in SETTINGS:
+                case[what] += value.split("; ")
+            else:
+                rows.append(line)
+        yield name, case, rows
 
 
 def runs_of_fbuf():
-    """Each case of crates/fbuf/scripts, once for each line of its `.args`."""
-    for name in sorted({path.name.partition(".")[0] for path in SCRIPTS.iterdir()}):
-        part = lambda kind: SCRIPTS / f"{name}.{kind}"
-        given, replies = bytes_of(part("in")), bytes_of(part("out"))
-        if part("from").is_file():
-            given = pathlib.Path(part("from").read_text().strip())
-        if part("each").is_file():
-            given, replies = made_by(part("each"))
-        wanted = Ended(status_in(part("status")), replies, bytes_of(part("err")))
-        to = tuple(bytes_of(part("to")).decode().split())
-        limits = limits_in(part("limit"))
-        calls = bytes_of(part("args")).decode(errors="surrogateescape").splitlines() or [""]
-        for call in calls:
-            shown = call.encode(errors="surrogateescape").decode(errors="backslashreplace")
-            yield StoredRun(f"{name} {shown}".strip(), "fbuf", tuple(shlex.split(call)), given, SCRIPTS, to, wanted, limits)
+    """Each case of crates/fbuf/scripts, once for each of its `words`."""
+    for name, case, rows in itertools.chain.from_iterable(map(cases_in, sorted(SCRIPTS.iterdir()))):
+        script, replies = made_by(rows)
+        given = pathlib.Path(*case["from"]) if case["from"] else script[: len(script) - sum(map(int, case["cut"]))]
+        wanted = Ended(sum(map(int, case["status"])), replies + bytes_in(case["output"]), bytes_in(case["errors"]))
+        for words in case["words"] or [""]:
+            call = shlex.split(bytes_in([words]).decode(errors="surrogateescape"))
+            to, limits = tuple(case["to"]), limits_in(case["limit"])
+            yield StoredRun(f"{name} {words}".strip(), "fbuf", tuple(call), given, SCRIPTS, to, wanted, limits)
 
 
 def run_of_crate(name):

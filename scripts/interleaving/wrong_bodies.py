@@ -1,7 +1,9 @@
 """Wrong bodies of the libraries, all in one build, of which a run asks for one.
 
-A file of `scenes/wrong` is a body: who it belongs to, the scene that has to find it, by which bound, and edits of sources. In what an edit
-puts in, `IS_WRONG` stands for the question whether this body is asked for. The explorer answers it in place of the system's `getpid`.
+A body of `scenes/wrong/bodies.edits` is a paragraph: its name, what it does, its scene and the bound by which that finds it, and the edits of
+sources, each a text that stands once in the file and what comes in its place. Any blanks and line ends may stand between the words of a text.
+In what an edit puts in, `OLD` stands for the text, and `IS_WRONG` for the question whether this body is asked for. The explorer answers it in
+place of the system's `getpid`.
 """
 import dataclasses
 import re
@@ -29,18 +31,29 @@ class Body:
     edits: tuple[Edit, ...]
 
 
-def read_body(path, number):
-    """Reads a file: lines `for`, `scene` and `bound`, and then `file`, `old` and `new` of each edit, over as many lines as they have."""
+def read_body(name, number, rest):
+    """Reads a body of the table: lines `for`, `scene`, and then `file`, `old` and `new` of its edits, each over as many lines as it has."""
     fields, edits = {}, []
-    for name, value in re.findall(r"^(for|scene|bound|file|old|new):(.*?)(?=^(?:for|scene|bound|file|old|new):|\Z)", path.read_text(encoding="utf-8"), re.M | re.S):
-        fields[name] = value.strip() if name in ("for", "scene", "bound", "file") else value.strip("\n")
-        if name == "new":
-            edits.append(Edit(fields["file"], fields["old"].strip(), fields["new"].strip()))
-    return Body(path.stem, number, fields["scene"], fields["bound"], tuple(edits))
+    for what, value in re.findall(r"^(for|scene|file|old|new): (.*?)$(?=\n\S|\n*\Z)", rest, re.M | re.S):
+        fields[what] = " ".join(value.split())
+        if what == "new":
+            edits.append(Edit(fields["file"], fields["old"], fields["new"]))
+    scene, _, bound = fields["scene"].partition(" | ")
+    return Body(name, number, scene, bound, tuple(edits))
 
 
-def read_bodies(folder):
-    return [read_body(path, number) for number, path in enumerate(sorted(folder.glob("*.edit")), 1)]
+def read_bodies(table):
+    found = re.findall(r"^name: (\w+)\n(.*?)(?=^name: |\Z)", table.read_text(encoding="utf-8"), re.M | re.S)
+    return [read_body(name, number, rest) for number, (name, rest) in enumerate(found, 1)]
+
+
+def changed(text, edit, body):
+    """The text of a source with an edit of a body in it."""
+    found = re.findall(r"\s+".join(map(re.escape, edit.old.split())), text)
+    if len(found) != 1:
+        raise Misplaced(f"{body.name}: {edit.file} has {len(found)} times: {edit.old}")
+    new = edit.new.replace("OLD", found[0]).replace("IS_WRONG", QUESTION.format(number=body.number))
+    return text.replace(found[0], new)
 
 
 def switch_on(room, bodies):
@@ -49,10 +62,7 @@ def switch_on(room, bodies):
     for body in bodies:
         for edit in body.edits:
             path = room / edit.file
-            text = path.read_text(encoding="utf-8")
-            if text.count(edit.old) != 1:
-                raise Misplaced(f"{body.name}: {edit.file} has {text.count(edit.old)} times: {edit.old}")
-            path.write_text(text.replace(edit.old, edit.new.replace("IS_WRONG", QUESTION.format(number=body.number))), encoding="utf-8")
+            path.write_text(changed(path.read_text(encoding="utf-8"), edit, body), encoding="utf-8")
             crates.add(edit.file.split("/")[1])
     listed = room / "crates.txt"
     lines = listed.read_text(encoding="utf-8")
