@@ -1,4 +1,4 @@
--- Which replies are right, by the positions of marks and namings in a list of events.
+-- Which replies are right, by the positions of marks and dequeues in a list of events.
 use Rattle.std.specs.Prelude.{◌≡◌, ℕ, ◌+◌, ◌<◌, ◌≤◌, true, List, [], ◌∷◌, ◌++◌, map, take, length, Some, slice_get}
 use Rattle.futures_buffered_core.specs.ReadyCore.{is_marked}
 use Rattle.futures_buffered_core.specs.declared.ready_core.Event.{Event}
@@ -8,18 +8,18 @@ use Rattle.futures_buffered_core.specs.declared.ready_core.Reply.TheVariants as 
 use Rattle.futures_buffered_table.specs.declared.answer.Woke.TheVariants.{Fresh, Already}
 use Rattle.futures_buffered_table.specs.declared.answer.Taken.TheVariants.{Slot, Empty, Pause}
 
--- a taking at this position was answered with the slot
+-- the dequeue at position `r` returned slot `i`
 abbrev pub IsNamedAt : List Reply → ℕ → ℕ → Type 0
 IsNamedAt replies r i = slice_get replies r ≡ Some (reply.Taken (Slot i))
 
--- after these events and replies, the mark of slot i at position q is unserved: no later taking was answered with i
+-- the mark of slot `i` at position `q` is not yet dequeued: no later dequeue returned `i`
 abbrev pub IsUnserved : List Event → List Reply → ℕ → ℕ → Type 0
 IsUnserved events replies q i = (slice_get events q ≡ Some (event.Mark i))
     × ((r : ℕ) → q < r → IsNamedAt replies r i → ⊥)
 
--- what the next event may be answered, after these events and replies
+-- the reply is right for the next event, after these events and replies
 abbrev pub IsRight : List Event → List Reply → Event → Reply → Type 0
--- the mark of i at q is the oldest of all unserved marks
+-- the mark of `i` at `q` is the oldest of all marks that are not yet dequeued
 IsRight events replies event.Take (reply.Taken (Slot i)) = (q : ℕ)
     × IsUnserved events replies q i
     × ((j p : ℕ) → IsUnserved events replies p j → q ≤ p)
@@ -30,11 +30,12 @@ IsRight events replies (event.Mark i) (reply.Woke Fresh) = (p : ℕ) → IsUnser
 IsRight events replies (event.Mark i) (reply.Woke Already) = (p : ℕ) × IsUnserved events replies p i
 IsRight events replies (event.Mark i) (reply.Taken _) = ⊥
 
--- the mark of i at q is unserved, and its oldest
+-- the mark of `i` at `q` is not yet dequeued, and is the oldest such mark of `i`
 abbrev pub IsOldest : List Event → List Reply → ℕ → ℕ → Type 0
 IsOldest events replies q i = IsUnserved events replies q i × ((p : ℕ) → IsUnserved events replies p i → q ≤ p)
 
--- each of these slots is marked, and they stand by their oldest unserved marks, at positions from low on
+-- each of these slots is marked, and they are in the order of their oldest marks not yet dequeued, at positions from
+-- `low` on
 abbrev pub StandInOrder : List Event → List Reply → ℕ → List ℕ → Type 0
 StandInOrder events replies low [] = Unit {0}
 StandInOrder events replies low (i ∷ slots) = (q : ℕ)
@@ -42,12 +43,12 @@ StandInOrder events replies low (i ∷ slots) = (q : ℕ)
     × IsOldest events replies q i
     × StandInOrder events replies (q + 1) slots
 
--- the slots that are marked after these events and replies, by their oldest unserved mark
+-- the list has the slots that are marked after these events and replies, by their oldest marks not yet dequeued
 pub record IsStanding (events : List Event) (replies : List Reply) (slots : List ℕ) : Type 0 where
   pub in_order : StandInOrder events replies 0 slots
   pub all : (i q : ℕ) → IsUnserved events replies q i → is_marked slots i ≡ true
 
--- a core with this standing is judged as if there had been one mark of each slot, in order
+-- a core with these marked slots is judged as if there had been one mark of each slot before, in order
 abbrev pub marks_before : List ℕ → List Event
 marks_before standing = map (λ i. event.Mark i) standing
 
@@ -61,7 +62,7 @@ EachIsRight standing events replies = (p : ℕ) (e : Event) (r : Reply)
     → IsRight (marks_before standing ++ take p events)
     (replies_before standing ++ take p replies) e r
 
--- the replies are right, one for each event, and the new standing is that of all events
+-- the replies are right, one for each event, and `new` has the slots that are marked after all events
 pub record Answers
     (standing : List ℕ)
     (events : List Event)

@@ -9,7 +9,7 @@ use Rattle.futures_buffered_core.specs.declared.ready_shared.Lent.{Lent}
 use Rattle.futures_buffered_core.specs.declared.ready_shared.Lent.TheVariants.{OfSlot, OfNoSlot}
 
 module _ {O : Type 0} where
-  -- the list of the source, the place in which its wakers look, and the slot of the waker that it lends
+  -- the list of the source, the place in which its wakers look, and the slot of its waker
   abbrev pub list_of : Lent O → ListIdentity
   list_of (OfSlot waker) = waker.list
   list_of (OfNoSlot wakes) = (arc_value wakes).list
@@ -22,12 +22,13 @@ module _ {O : Type 0} where
   lent_slot (OfSlot waker) = waker.slot
   lent_slot (OfNoSlot wakes) = 0
 
-  -- a source lends a waker exactly if it has a slot
+  -- a source has a waker if and only if it has a slot
   abbrev pub LendsSlot : Lent O → Type 0
   LendsSlot (OfSlot waker) = waker.slot < waker.list.capacity
   LendsSlot (OfNoSlot wakes) = (arc_value wakes).list.capacity ≡ 0
 
-  -- both seats at the list are of its list, the seat at the place is of its place, and a waker is lent if there is a slot
+  -- Both seats at the list are of its list, and the seat at the place is of its place. It has a waker if and only if it
+  -- has a slot.
   pub record KeepsShared (lent : Lent O) (poll : Poller) (marks : Waker) (place : PlaceId) : Type 0 where
     pub polls : poll.list ≡ (list_of lent).list
     pub marks_it : marks.list ≡ (list_of lent).list

@@ -9,7 +9,7 @@ use Rattle.futures_buffered_place.specs.declared.place.Put.{Put as Answer}
 use Rattle.futures_buffered_place.specs.declared.place.Put.TheVariants.{Kept, Busy}
 use Rattle.futures_buffered_place.specs.History.{PlaceId, place_id_code, History, history_code, PutsIn, TakesOut, Seated, no_history}
 
--- the name of what a task waits for that registers, and the place in which its wakers look
+-- the source of `futures` at which the task registers, and the place in which its wakers look
 pub record Awaited : Type 0 where
   pub source : ℕ
   pub place : PlaceId
@@ -18,7 +18,8 @@ abbrev pub awaited_code : Coded Awaited
 awaited_code = code_by (ℕ × PlaceId) (coded× coded_ℕ place_id_code)
     (λ a. (a.source, a.place)) (λ p. record { source = p.0; place = p.1 }) (λ _. refl)
 
--- the poller's side: its place, whether it alone puts in there, the steps that it made there, and the waker that it has
+-- the poller's side: its place, whether it alone publishes there, the steps that it made there, and the waker that it
+-- has
 pub record Poller (O : Type 0) : Type 0 where
   pub place : PlaceId
   pub alone : Bool
@@ -35,46 +36,48 @@ pub record MadeWake (O : Type 0) : Type 0 where
   pub listed : Waker
   pub placed : Option (Seated O)
 
--- both seats of one poller: the one of the list, and its side of the place
+-- both seats of one poller: its seat of the list, and its side of the place
 pub record Side (O : Type 0) : Type 0 where
   pub poll : PollSeat
   pub task : Poller O
 
 module _ {O : Type 0} where
-  -- it has this waker, and did this
+  -- the side has this waker, and has made these steps
   abbrev pub IsNewPoller : Option O → History O → Poller O → Type 0
   IsNewPoller own did new = (new.own ≡ own) × (new.did ≡ did)
 
-  -- the answer of a putting in that replaced this waker; or that returned a waker, since it met another call
+  -- the result of a publication: `Kept` with the waker that it replaced, or `Busy` with the waker that it returned, if
+  -- another call was at the place
   abbrev pub answer_of : Option O → Option O → Answer O
   answer_of before None = Kept before
   answer_of before (Some outer) = Busy outer
 
-  -- one putting in of the waker x, once so many steps were made at the list
+  -- One publication of the waker, after `made` steps at the list. Either the waker is kept, and the one before, if any,
+  -- was taken. Or another call was at the place, and the waker is not kept.
   abbrev pub PutsOrMeets : ℕ → Bool → O → History O → History O → Type 0
   PutsOrMeets made alone x old new = (answer : Answer O) × PutsIn made alone x old answer new
 
-  -- a poller puts in the waker that it has, if it has one
+  -- the waker that the side has is published, if it has one
   abbrev pub PutsOwn : ℕ → Bool → Option O → History O → History O → Type 0
   PutsOwn made alone None old new = new ≡ old
   PutsOwn made alone (Some x) old new = PutsOrMeets made alone x old new
 
-  -- a poller puts in the waker that it has, and has none then; it is at the same place
+  -- the side is at the same place, and has no waker: the one that it had was published, after `made` steps at the list
   abbrev pub GivesUp : ℕ → Poller O → Poller O → Type 0
   GivesUp made old new = (new.place ≡ old.place) × (new.alone ≡ old.alone) × (new.own ≡ None)
       × PutsOwn made old.alone old.own old.did new.did
 
-  -- a poller that had no waker has the one that it took out; any other keeps its own, and makes no step
+  -- If the side had no waker, it has the one that it took, if any. Otherwise it keeps its own, and makes no step.
   abbrev pub HasBack : ℕ → Option O → History O → Option O → History O → Type 0
   HasBack made None old own new = TakesOut made old own new
   HasBack made (Some mine) old own new = (own ≡ Some mine) × (new ≡ old)
 
-  -- a poller that had no waker made the steps of one taking out; any other made no step
+  -- If the side has no waker, it takes the one that is kept, or none. Otherwise it makes no step.
   abbrev pub TakesBack : ℕ → Option O → History O → History O → Type 0
   TakesBack made None old new = (x : Option O) × TakesOut made old x new
   TakesBack made (Some own) old new = new ≡ old
 
-  -- a seat of this place took the waker or missed it, once so many steps were made at the list
+  -- a seat of this place took the waker or found none to take, after `made` steps at the list
   abbrev pub LooksAfter : ℕ → PlaceId → Seated O → Type 0
   LooksAfter made place seat = (seat.place ≡ place) × ((outer : Option O) × TakesOut made no_history outer seat.did)
 

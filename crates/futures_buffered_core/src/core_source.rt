@@ -24,11 +24,11 @@ impl SlotWaker for NoopWaker {
     fn wake(&self) {}
 }
 
-/// A ready core under one caller. Its wakers do nothing, so a slot is marked by its set alone, and no mark wakes the
-/// task that it keeps. That is woken where another task registers, and where the source is dropped.
+/// A ready core for one caller. Its wakers do nothing, so only its set marks slots, and no mark wakes the task that it
+/// keeps. That task is woken if another task registers, or when the source is dropped.
 ///
-/// A contract sees what it sees of the core: the capacity, and the marked slots by their oldest unserved marks. Marks
-/// and takings are those of the core, and a registration changes nothing of it.
+/// A contract sees what it sees of the core: the capacity, and the marked slots by their oldest marks that are not yet
+/// dequeued. A registration changes nothing of the core.
 #[derive(Drop)]
 pub struct CoreSource {
     core: ReadyCore,
@@ -72,7 +72,7 @@ impl ReadySource for CoreSource {
         self.core.take()
     }
 
-    /// Has a waker for each slot, whichever was named last.
+    /// Returns the same waker for each slot, whichever slot was dequeued last.
     fn waker(&self, _i: usize) -> &NoopWaker
         requires { _i < self.now.capacity }
     {

@@ -1,7 +1,7 @@
-//! What comes out of the place of the task's waker, and has to be woken.
+//! A waker that was taken from the place of the task's waker, and has to be woken.
 //!
-//! A waker that a wake took, or that met another call at the place, is a [`MustWake`]. That type is not `Drop`, and its
-//! only call wakes: a body that keeps such a waker from waking does not compile.
+//! A [`MustWake`] is a waker that a wake took, or a waker whose publication met another call at the place. Its type is
+//! not `Drop`, and its only call wakes: a body that keeps such a waker from waking does not compile.
 ghost use Rattle.std.specs.Prelude.{◌≡◌, ℕ, true, false, Option, IfOk, length};
 ghost use Rattle.futures_buffered_core.specs.WakerPlace.{answer_of};
 ghost use Rattle.futures_buffered_place.specs.History.{PutsIn, TakesOut, no_history, putter};
@@ -11,14 +11,14 @@ use futures_buffered_table::ready_table::{PollSeat, StepsMade, WakeSeat};
 use std::alloc::{AllocError, Global};
 use std::marker::{Brand, Model};
 
-/// What a fresh wake of a slot wakes in its turn.
+/// What a wake of a slot wakes if its mark is newly set.
 pub trait OuterWaker: Drop {
     /// Wakes it, once. The caller has left the place of the waker by then.
     fn wake_outer(self);
 }
 
-/// A seat of the list, which shows how many steps it has made there. A call at the place that is shown a seat notes that
-/// number with each of its own steps.
+/// A seat of the list, which shows how many steps it has made there. A call at the place that is shown one records that
+/// number with each of its steps.
 pub trait ListSeat {
     ghost made: { Self → ℕ };
 }
@@ -56,7 +56,7 @@ impl<O: OuterWaker> MustWake<O> {
     }
 }
 
-/// A place whose wakers come out to be woken, or go back to the poller.
+/// A place from which a waker is taken to be woken, or is returned to the poller.
 #[derive(Drop)]
 pub struct WakingPlace<O> {
     place: Place<O>,
@@ -73,7 +73,7 @@ impl<O> Model for WakingPlace<O> {
 }
 
 impl<O: Drop> WakingPlace<O> {
-    /// Keeps no waker at first. Returns the seat that puts in.
+    /// Makes a place that keeps no waker. Returns it with the seat that publishes. Allocates.
     pub fn new(alloc: Global) -> Result<(WakingPlace<O>, PutSeat<O>), AllocError>
         ensures { IfOk result (λ r. r.1 ≡ putter r.0 true no_history) }
     {
@@ -103,8 +103,8 @@ impl<O: Drop> WakingPlace<O> {
         self.place.take_out::<Brand, T>(seat, shown)
     }
 
-    /// Keeps a waker in place of the one before, which is dropped once this call has left the place. If another call is
-    /// there, the waker is returned.
+    /// Publishes a waker. Drops the waker that it replaces after this call has left the place. If another call is at
+    /// the place, publishes nothing and returns `outer`.
     pub fn put_in<T: ListSeat>(
         &self,
         seat: &mut PutSeat<O>,
@@ -122,7 +122,7 @@ impl<O: Drop> WakingPlace<O> {
         }
     }
 
-    /// A second seat that puts in, beside this one.
+    /// Returns a second seat that publishes, next to this one.
     pub fn seat_beside(&self, seat: &mut PutSeat<O>) -> PutSeat<O>
         requires { seat.old.place ≡ self.now }
         ensures same { seat.new ≡ record seat.old { alone = false } }

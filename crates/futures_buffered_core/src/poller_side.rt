@@ -1,6 +1,7 @@
-//! The poller's two seats: one of the list, one of the place of the task's waker. No other code steps with either.
+//! The poller's two seats: its seat of the list, and its seat of the place of the task's waker. The poller alone makes
+//! steps with them: it dequeues from the list, and publishes the waker.
 //!
-//! A contract sees the steps of both. It says of each step at the place how many steps at the list came before it.
+//! A contract sees the steps of both, and for each step at the place how many steps at the list came before it.
 ghost use Rattle.std.specs.Prelude.{◌≡◌, ◌⊎◌, ◌<◌, ℕ, true, false, List, ◌++◌, length, None, IsSomeAnd};
 ghost use Rattle.futures.specs.Task.{Hears, IsArmed, Keeps, Wakes};
 ghost use Rattle.futures_buffered_core.specs.WakerPlace.{GivesUp, IsNewPoller, PutsOrMeets, TakesBack};
@@ -42,8 +43,10 @@ impl<O> PollerSide<O> {
 }
 
 impl<O: OuterWaker> PollerSide<O> {
-    /// Takes from the list. If it takes no slot and its head is the stub, it has published its waker: after it read the
-    /// stub's link, and before it read the tail. Otherwise it makes no step at the place.
+    /// Dequeues from the list.
+    ///
+    /// It makes steps at the place only if it returns no slot and its head is the stub. Then it has published the waker
+    /// that it keeps, if any. It did so after it read the link of the stub, and before it read the tail.
     #[inline(always)]
     pub fn take(&mut self, list: &ReadyList, place: &WakerPlace<O>) -> Taken
         requires list { self.old.poll.list ≡ list.now.list }
@@ -58,7 +61,7 @@ impl<O: OuterWaker> PollerSide<O> {
         list.take_with(&mut self.poll, &mut AtPlace::new(place, &mut self.task))
     }
 
-    /// Publishes a waker. If another call is at the place, the waker is woken.
+    /// Publishes a waker in the place, after as many steps at the list as this side has made.
     pub fn put_in(&mut self, place: &WakerPlace<O>, outer: O)
         requires { self.old.task.place ≡ place.now.place }
         ensures poll { self.new.poll ≡ self.old.poll }
@@ -77,7 +80,7 @@ impl<O: OuterWaker> PollerSide<O> {
         self.task.give_up_own(place, &self.poll);
     }
 
-    /// Returns a sibling's side of the place. The waker that is kept here is published.
+    /// Returns the task's side of a sibling source. Publishes the waker that it keeps, if it keeps one.
     pub fn beside(&mut self, place: &WakerPlace<O>) -> PollerWaker<O>
         requires { self.old.task.place ≡ place.now.place }
         ensures poll { self.new.poll ≡ self.old.poll }
@@ -90,7 +93,8 @@ impl<O: OuterWaker> PollerSide<O> {
 }
 
 impl PollerSide<Waker> {
-    /// Keeps the task's waker. If none is kept here, it first takes back the published one.
+    /// Keeps the task's waker. If this side keeps none, it first takes back the one that the place keeps. It does so
+    /// after as many steps at the list as this side has made.
     pub fn register(&mut self, place: &WakerPlace<Waker>, cx: &mut Context<'_>)
         requires { self.old.task.place ≡ place.now.place }
         ensures poll { self.new.poll ≡ self.old.poll }

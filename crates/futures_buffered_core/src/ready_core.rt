@@ -1,8 +1,7 @@
-//! Which slots are marked, and which one is named next.
+//! Which slots are marked, and which one is dequeued next.
 //!
-//! Events are marks and takings. A mark of a slot is unserved until a taking names that slot. A taking names the slot
-//! whose unserved mark is oldest. Nothing here waits, and after construction nothing takes memory but `run`, for its
-//! replies.
+//! An event is a mark or a dequeue. A dequeue returns the slot with the oldest mark that is not yet dequeued; all marks
+//! of that slot are then dequeued. No call waits. After construction only `run` allocates, for its replies.
 ghost use Rattle.std.specs.Prelude.{◌≡◌, ◌+◌, ◌<◌, [], ℕ, List, ◌++◌, length, slice_set, OnOk, OnErr, nat_eq, vec_len};
 ghost use Rattle.std.specs.List.{IsDistinct};
 ghost use Rattle.futures_buffered_core.specs.ReadyCore.{MarkGives, TakeGives, IsNameBelow};
@@ -22,28 +21,28 @@ use thiserror::Error;
 pub enum Event {
     /// Marks the slot.
     Mark(usize),
-    /// Asks for a name.
+    /// Dequeues a slot.
     Take,
 }
 
-/// The answer of an event.
+/// The result of an event.
 #[derive(Clone, Copy, Debug, PartialEq, Eq)]
 pub enum Reply {
     /// Of a mark.
     Woke(Woke),
-    /// Of a taking.
+    /// Of a dequeue.
     Taken(Taken),
 }
 
-/// Slots with at most one unserved mark each that counts, in the order in which these marks were made.
+/// The marked slots, each once, by the oldest mark of each that is not yet dequeued.
 ///
-/// A contract sees the capacity and the list of marked slots, oldest unserved mark first. The marked slots stand in a
-/// row of links, as in a `ReadyList`, and one entry more than there are slots, the stub, takes the head's place where
-/// no slot is marked. Each call but `new` takes the same time at any capacity, and no memory.
+/// A contract sees the capacity and the list of marked slots, in that order. The marked slots are in a row of links, as
+/// in a `ReadyList`. One entry more than there are slots, the stub, takes the head's place if no slot is marked. Each
+/// call except `new` takes the same time at any capacity, and does not allocate.
 #[derive(Drop)]
 pub struct ReadyCore {
     marks: Vec<bool>,
-    // For each slot and for the stub 0, or 1 more than the entry that follows.
+    // For each slot and for the stub: 0, or 1 more than the entry that follows.
     links: Vec<usize>,
     head: usize,
     tail: usize,
@@ -67,8 +66,8 @@ impl Model for ReadyCore {
         (slots_of core.links.items (vec_len core.marks) core.head) };
 }
 
-// Puts the entry behind the last: its link is cleared, it becomes the tail, and the entry that was
-// the tail names it.
+// Adds the entry after the last. Its link is cleared, and it becomes the tail. The link of the entry that was the tail
+// points to it.
 fn put_last(links: &mut Vec<usize>, tail: &mut usize, entry: usize)
     requires entry { entry < vec_len links.old }
     requires tail { tail.old < vec_len links.old }
@@ -83,9 +82,9 @@ fn put_last(links: &mut Vec<usize>, tail: &mut usize, entry: usize)
 }
 
 impl ReadyCore {
-    /// A core of `cap` slots, none of which is marked.
+    /// Makes a core of `cap` slots, none of which is marked.
     ///
-    /// Takes time and memory in proportion to `cap`: `cap` marks and `cap + 1` links, so that no later call takes any.
+    /// Takes time and allocates in proportion to `cap`: `cap` marks and `cap + 1` links. No later call allocates.
     pub fn new(alloc: Global, cap: usize) -> Result<Self, NewFault>
         ensures { MakesSlots cap (λ core. core ≡ record { capacity = cap; marked = [] }) result }
     {
@@ -124,15 +123,14 @@ impl ReadyCore {
         Woke::Already
     }
 
-    /// Names the slot whose unserved mark is oldest, and unmarks it. `Empty` where no slot is marked, and never
-    /// `Pause`.
+    /// Dequeues the slot whose mark is oldest, and unmarks it. Returns `Empty` if no slot is marked, and never `Pause`.
     pub fn take(&mut self) -> Taken
         ensures taken { TakeGives self.old.marked result self.new.marked }
         ensures below { IsNameBelow self.old.capacity result }
         ensures capacity { self.new.capacity ≡ self.old.capacity }
     {
-        // The steps are those of a `ReadyList`. No mark is half made here, so a tail that is read is
-        // always the head.
+        // The steps are the steps of a `ReadyList`. No mark is half made here, so a tail that is read is always the
+        // head.
         let stub = self.marks.len();
         if self.head == stub {
             let first = self.links[stub];
@@ -157,24 +155,23 @@ impl ReadyCore {
     }
 }
 
-/// Why a list was refused.
+/// Why a list was rejected.
 #[derive(Clone, Copy, Debug, PartialEq, Eq, Error)]
 pub enum RunFault {
-    /// A request for memory was refused.
+    /// An allocation failed.
     #[error("out of memory")]
     Memory,
-    /// The position of the first entry that names a slot not below the capacity. This is tested before any memory is
-    /// asked for.
+    /// The position of the first entry whose slot is not below the capacity. This is tested before any allocation.
     #[error("the entry at {0} names a slot that is not there")]
     Event(usize),
 }
 
 /// Does the events in order, and appends a reply for each to `out`.
 ///
-/// All slots are tested first, and room for all replies is made next: only then is the first event done, so a fault
-/// changes nothing. Each event takes the same time at any capacity; the memory is that of the replies.
+/// It tests all slots first, then makes room for all replies, and only then does the first event. So an error changes
+/// nothing. Allocates for the replies. Each event takes the same time at any capacity.
 pub fn run(core: &mut ReadyCore, events: &[Event], out: &mut Vec<Reply>) -> Result<(), RunFault>
-    // The marks and namings of the events, after one mark of each slot that stands at the start, decide each reply.
+    // The marks and dequeues of the events decide each reply, after one mark of each slot that is marked at the start.
     ensures right { OnOk result ((replies : List Reply) × (out.new.items ≡ out.old.items ++ replies)
         × Answers core.old.marked events.now replies core.new.marked) }
     ensures capacity { core.new.capacity ≡ core.old.capacity }

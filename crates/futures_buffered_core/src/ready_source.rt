@@ -1,7 +1,7 @@
-//! What a set asks for names: marks, takings, and the task's waker.
+//! The traits by which a set marks and dequeues slots, and registers its task.
 //!
 //! A source has a content of its own, of which a contract knows only what the source's relations say. `CoreSource` is a
-//! ready core under one caller, and `ScriptSource` gives a list of answers; both have exact relations.
+//! ready core for one caller, and `ScriptSource` returns a list of results; both have exact relations.
 ghost use Rattle.std.specs.Prelude.{◌≡◌, ◌<◌, ℕ, IfOk};
 ghost use Rattle.futures.specs.Task.{Covers, Keeps};
 ghost use Rattle.futures.specs.declared.task.context.Context.{Context};
@@ -17,25 +17,25 @@ pub use crate::script_source::ScriptSource;
 use futures::task::Context;
 use std::alloc::Global;
 
-/// What a set sees of a slot's waker: which slot it wakes, and no call that wakes it. So a set can hand a waker on, and
-/// cannot use it.
+/// A slot's waker as a set sees it: which slot it wakes, and no call that wakes it. So a set can pass a waker on, and
+/// cannot wake with it.
 pub trait SlotHandle {
-    // The slots of which it is a waker: the one that a wake marks. A waker that does nothing is one of each slot.
+    // The slots of which it is a waker: the one that a wake marks. A waker that does nothing is a waker of each slot.
     ghost wakes: { Self → ℕ → Type 0 };
 }
 
-/// Wakes one slot, any number of times, also once the set that it came from is gone.
+/// Wakes one slot, any number of times, also after the set that it came from is dropped.
 pub trait SlotWaker: SlotHandle {
-    /// Marks the slot, unless it is a waker that does nothing. Where that mark is fresh and the task's waker is kept
-    /// for wakes, takes that out and wakes the task.
+    /// Marks the slot, unless it is a waker that does nothing. If the mark is newly set and the task's waker is kept
+    /// for wakes, takes that waker and wakes the task.
     fn wake(&self);
 }
 
-/// Names slots that were marked.
+/// Dequeues slots that were marked.
 ///
-/// Beside the calls a source states what they may do: relations between its content before, the answer, and its content
-/// after. Each named slot is below the capacity, and the capacity stays: these are laws below. Only the calls that make
-/// a source may allocate, and no call may wait for another thread.
+/// A source states what its calls may do, by relations between its content before, the result, and its content after.
+/// The laws below say that each slot that `take` returns is below the capacity, and that the capacity does not change.
+/// Only the calls that make a source may allocate. No call may wait for another thread.
 pub trait ReadySource: Drop {
     /// What wakes one slot.
     type Waker: SlotHandle;
@@ -43,54 +43,55 @@ pub trait ReadySource: Drop {
     // The capacity: how many slots it has.
     ghost slots: { Self → ℕ };
 
-    // What a mark of a slot may answer, and make of the content.
+    // What a mark of a slot may return, and how it may change the content.
     ghost marks: { Self → ℕ → Woke → Self → Type 0 };
 
-    // What a registration may make of the content, and what a taking may answer and make of it.
+    // How a registration may change the content, and what a dequeue may return and how it may change the content.
     ghost steps: { SourceSteps Self };
 
-    // What a registration may make of the context of the poll that registers.
+    // How a registration may change the context of the poll that registers.
     ghost registers_poll: { Self → Context → Context → Type 0 };
 
-    // The places of a task's wakes at which a registration waits, by their names.
+    // The sources of `futures` at which a registration waits, by their numbers.
     ghost needs: { Self → ℕ → Type 0 };
 
     /// The number of slots.
     fn capacity(&self) -> usize
         ensures { result ≡ slots self.now };
 
-    /// Marks a slot, and wakes nobody. Takes no memory.
+    /// Marks a slot. Does not allocate. Does not wake the task.
     fn mark(&mut self, i: usize) -> Woke
         requires { i < slots self.old }
         ensures { marks self.old i result self.new };
 
-    /// Asks for a name. Does not allocate.
+    /// Dequeues a slot. Does not allocate.
     fn take(&mut self) -> Taken
         ensures { steps.takes self.old result self.new };
 
-    /// Lends the waker of the slot that it named last. The waker is of that slot until a taking names another; a copy
-    /// is for good. Takes no memory.
+    /// Returns a reference to the waker of the slot that was dequeued last. That waker is of this slot until the next
+    /// slot is dequeued; a copy of it is of this slot permanently. Does not allocate.
     fn waker(&self, i: usize) -> &Self::Waker
         requires { IsNamed steps.takes self.now i }
         ensures { Self.Waker.wakes result.now i };
 
     /// Keeps the waker of the task that polls in place of the one kept before, or polls what the source waits for with
-    /// `cx`.
+    /// `cx`. The task is registered where it waits, or is woken. The task keeps each earlier registration and wake.
     fn register(&mut self, cx: &mut Context<'_>)
         ensures registered { steps.registers self.old self.new }
         ensures poll { registers_poll self.old cx.old cx.new }
         ensures covered { Covers cx.new (needs self.old) }
         ensures kept { Keeps cx.old cx.new };
 
-    /// Is told that the set has let go what all its slots held, and drops what it keeps for that. A source that keeps
-    /// nothing of it does nothing. Takes no memory.
+    /// Tells the source that the set has dropped the values of all its slots. The source releases what it keeps for
+    /// them, if anything. Does not allocate.
     ///
     /// A slot that was marked stays marked.
     fn let_all_go(&mut self)
         ensures { self.new ≡ self.old }
     {}
 
-    // Names are below the capacity, the capacity stays, and no taking or registration waits at a new place.
+    // Each dequeued slot is below the capacity, the capacity does not change, and no dequeue or registration adds a
+    // place at which the source waits.
     ghost laws: { SourceLaws marks steps needs slots };
 }
 

@@ -1,4 +1,4 @@
-//! The source of a test: it names what a list says.
+//! The source of a test: it returns what a list says.
 ghost use Rattle.std.specs.Prelude.{◌≡◌, ◌≢◌, ◌<◌, ℕ, IfOk, OnOk, length};
 ghost use Rattle.futures.specs.Task.{IsArmed, Keeps};
 ghost use Rattle.futures_buffered_core.specs.ReadySource.{WaitsNowhere, laws_of_takes, only_takes};
@@ -14,11 +14,11 @@ use std::alloc::Global;
 use std::marker::Model;
 use std::vec;
 
-/// Gives the answers of a list in order, and then `Empty` for good: for a test of what a set does with the names that
-/// it gets. Its wakers do nothing, and no call wakes the task that it keeps but a registration of another. That task is
-/// woken too where the source is dropped.
+/// Returns the results of a list in order, and then `Empty` permanently. So a test chooses which slots a set dequeues.
+/// Its wakers do nothing. The task that it keeps is woken if another task registers, or when the source is dropped. No
+/// other call wakes it.
 ///
-/// A contract sees the capacity and the answers that are left.
+/// A contract sees the capacity and the results that are left.
 #[derive(Drop)]
 pub struct ScriptSource {
     capacity: usize,
@@ -45,11 +45,10 @@ impl Model for ScriptSource {
 }
 
 impl ScriptSource {
-    /// A source of `cap` slots with these answers to give. `cap` can be any number. Takes time in proportion to the
-    /// answers.
+    /// Makes a source of `cap` slots that returns these results. `cap` can be any number.
     ///
-    /// `RunFault::Event` has the position of the first answer that names a slot not below `cap`. No memory is asked
-    /// for, so `RunFault::Memory` never comes.
+    /// Fails with `RunFault::Event`, which has the position of the first result whose slot is not below `cap`. Does not
+    /// allocate, so `RunFault::Memory` is never returned. Takes time in proportion to the number of results.
     pub fn new(_alloc: Global, cap: usize, answers: Vec<Taken>) -> Result<Self, RunFault>
         ensures ok { IfOk result (λ s. s ≡ record { capacity = cap; left = answers.items }) }
         ensures named { OnOk result
@@ -91,7 +90,7 @@ impl ReadySource for ScriptSource {
         self.capacity
     }
 
-    /// Changes nothing: the answers are those of the list.
+    /// Changes nothing: the results are those of the list.
     fn mark(&mut self, _i: usize) -> Woke {
         Woke::Fresh
     }
@@ -100,7 +99,7 @@ impl ReadySource for ScriptSource {
         self.answers.next().unwrap_or(Taken::Empty)
     }
 
-    /// Has a waker for each slot, whichever was named last.
+    /// Returns the same waker for each slot, whichever slot was dequeued last.
     fn waker(&self, _i: usize) -> &NoopWaker
         requires { _i < self.now.capacity }
     {

@@ -1,8 +1,8 @@
-//! Fixed slots that hold values.
+//! Slots that hold values.
 //!
-//! A value goes into the first free slot and stays there until it is removed. For a new map the free slots are 0, 1, 2
-//! and so on; a slot that a removal frees is the first to be used again. Only the constructors and
-//! `grow_by_one` allocate.
+//! A value is put into the first free slot and stays there until it is removed. The free slots of a new map are 0, 1, 2
+//! and so on. A slot that a removal frees is the first to be used again. Only the constructors and `grow_by_one`
+//! allocate.
 ghost use Rattle.std.specs.Prelude.{◌≡◌, ◌≢◌, ◌+◌, ◌<◌, ◌≤◌, [], IfOk, IfErr, OnOk, OnErr, MatchOption, IfSome, IfNone, Some, None, ℕ};
 ghost use Rattle.std.specs.Prelude.{◌^◌, List, IsTrue, ◌↔◌, ◌==◌, is_some, IsSome};
 ghost use Rattle.std.specs.Option.{option_copied_mut};
@@ -17,14 +17,15 @@ use crate::ready_core::{MAX_CAPACITY, NewFault};
 use std::alloc::{AllocError, Global};
 use std::marker::Model;
 
-/// Values in slots whose number never changes.
+/// Slots, each of which holds a value or is free. Only `grow_by_one` changes their number.
 ///
-/// A contract sees what each slot holds, and the list of free slots in the order in which they will be used. Calls on
-/// one slot, and those that ask how much is held, take the same time at any capacity, besides what they call and drop.
+/// A contract sees what each slot holds, and the list of free slots in the order in which they will be used. A call on
+/// one slot, or a call that returns how much is held, takes the same time at any capacity, apart from what it calls and
+/// drops.
 #[derive(Drop)]
 pub struct PinSlotMap<F> {
     places: Vec<Place<F>>,
-    // The free place that is used next. Says nothing where none is free.
+    // The free place that is used next. Says nothing if no place is free.
     first_free: usize,
     // How many places hold a value.
     len: usize,
@@ -32,7 +33,7 @@ pub struct PinSlotMap<F> {
 
 #[derive(Drop)]
 enum Place<F> {
-    // The free place that is used after this one. Says nothing at the last of them.
+    // The free place that is used after this one. Says nothing in the last of them.
     Free(usize),
     Held(F),
 }
@@ -79,7 +80,7 @@ impl<F> Place<F> {
         }
     }
 
-    // The place that a free one names.
+    // The place that is used after this free one.
     fn next(&self) -> usize
         requires { value_of self.now ≡ None }
         ensures { result ≡ next_free self.now }
@@ -102,7 +103,7 @@ impl<F> Place<F> {
     }
 }
 
-// Each names the one after it.
+// Each place has the number of the one after it.
 #[tactic(auto, using(crate::proofs::SlotMapLemmas::new_places_push))]
 fn free_places<F>(alloc: Global, n: usize) -> Result<Vec<Place<F>>, AllocError>
     ensures { IfOk result (λ places. places.items ≡ new_places n) }
@@ -118,9 +119,9 @@ impl<F: Drop> PinSlotMap<F> {
     ghost use Rattle.futures_buffered_core.specs.SlotMapLends.{lends_slot, lends_value};
     ghost use Rattle.futures_buffered_core.specs.SlotMapIterMut.{iter_name, iter_slots, iter_from};
 
-    /// A map of `capacity` free slots.
+    /// Makes a map of `capacity` free slots.
     ///
-    /// Takes time and memory in proportion to `capacity`.
+    /// Takes time and allocates in proportion to `capacity`.
     pub fn new(alloc: Global, capacity: usize) -> Result<Self, NewFault>
         ensures { MakesSlots capacity (λ m. m ≡ no_slots capacity) result }
     {
@@ -135,10 +136,10 @@ impl<F: Drop> PinSlotMap<F> {
         })
     }
 
-    /// A map without a free slot, which has item k in slot k, and as many slots as there are items.
+    /// Makes a map without a free slot, which has item k in slot k, and as many slots as there are items.
     ///
-    /// Takes time and memory in proportion to that number, and asks at once for the memory of those that the iterator
-    /// says come at least. Where a map is refused, the items that came are dropped.
+    /// If it fails, the items that came are dropped. Takes time and allocates in proportion to the number of items. It
+    /// first tries to allocate for as many items as the iterator says come at least.
     pub fn from_iter<I: IntoIterator<Item = F>>(alloc: Global, iter: I) -> Result<Self, NewFault>
         requires { IsFiniteSource (items_of I.IntoIterator I.IntoIter.Iterator iter) }
         ensures full { IfOk result (λ m. (items : List F)
@@ -149,7 +150,7 @@ impl<F: Drop> PinSlotMap<F> {
         let iter = iter.into_iter();
         let (least, _most) = iter.size_hint();
         let mut places = Vec::new(alloc);
-        // Where this is refused, the pushes find room themselves.
+        // If this allocation fails, the pushes allocate.
         let _reserved = places.reserve_exact(least.min(MAX_CAPACITY));
         for item in iter {
             if places.len() == MAX_CAPACITY {
@@ -188,9 +189,9 @@ impl<F: Drop> PinSlotMap<F> {
         self.len() == 0
     }
 
-    /// Puts what `f` makes of `arg` into the first free slot, and answers which one that is.
+    /// Puts what `f` returns for `arg` into the first free slot, and returns the slot's number.
     ///
-    /// A full map hands `arg` back and does not call `f`.
+    /// If the map is full, returns `arg` and does not call `f`.
     pub fn insert_with<Arg, G: FnOnce(Arg) -> F>(&mut self, arg: Arg, f: G) -> Result<usize, Arg>
     where
         G: Drop,
@@ -211,9 +212,9 @@ impl<F: Drop> PinSlotMap<F> {
         Ok(i)
     }
 
-    /// Makes one slot more, behind the others, which is the next to be used. If an allocation fails, nothing changes.
+    /// Adds one free slot after the others, which is the next to be used. If an allocation fails, nothing changes.
     ///
-    /// Many such calls together take time and memory in proportion to their number.
+    /// Many such calls together take time and allocate in proportion to their number.
     pub fn grow_by_one(&mut self) -> Result<(), AllocError>
         ensures grown { OnOk result (GrowsByOne self.old self.new) }
         ensures same { OnErr result (self.new ≡ self.old) }
@@ -224,7 +225,8 @@ impl<F: Drop> PinSlotMap<F> {
         Ok(())
     }
 
-    /// Drops the value of a slot, which is then the first free one. A slot that is free or not there changes nothing.
+    /// Drops the value of a slot, which is then the first free one. Changes nothing if the slot is free or out of
+    /// range.
     pub fn remove(&mut self, key: usize)
         ensures slots { MatchOption (value_in self.old key) (self.new ≡ self.old)
             (λ _. self.new ≡ with_slot_freed self.old key) }
@@ -238,7 +240,7 @@ impl<F: Drop> PinSlotMap<F> {
         }
     }
 
-    /// Takes the value of a slot out: the slot is the next to be used. `None` if the slot is free or out of range.
+    /// Takes the value of a slot, which is then the first free one. Returns `None` if the slot is free or out of range.
     pub fn take(&mut self, key: usize) -> Option<F>
         ensures value { result ≡ value_in self.old key }
         ensures slots { MatchOption (value_in self.old key) (self.new ≡ self.old)
@@ -255,7 +257,7 @@ impl<F: Drop> PinSlotMap<F> {
         place.into_value()
     }
 
-    /// The value of a slot. `None` if the slot is free or out of range.
+    /// Returns a reference to the value of a slot. Returns `None` if the slot is free or out of range.
     pub fn value(&self, key: usize) -> Option<&F>
         ensures some { IfSome result (λ value. value_in self.now key ≡ Some value.now) }
         ensures none { IfNone result (value_in self.now key ≡ None) }
@@ -267,9 +269,9 @@ impl<F: Drop> PinSlotMap<F> {
         }
     }
 
-    /// Drops each value. The map is as a new one then.
+    /// Drops each value. The map is then as a new one.
     ///
-    /// Takes no memory, and time in proportion to `capacity`, besides the drops.
+    /// Does not allocate. Takes time in proportion to `capacity`, apart from the drops.
     pub fn clear(&mut self)
         ensures { self.new ≡ no_slots (slot_count self.old) }
     {
@@ -280,7 +282,7 @@ impl<F: Drop> PinSlotMap<F> {
         self.len = 0;
     }
 
-    /// The value of a slot, for writing. `None` where the slot is free or not there.
+    /// Returns a mutable reference to the value of a slot. Returns `None` if the slot is free or out of range.
     pub fn get(&mut self, key: usize) -> Option<&mut F>
         ensures* writes_back { sem 𝓛 (lends_slot F.row self.entry key result) }
         ensures value { option_copied_mut result ≡ value_in self.old key }
@@ -292,9 +294,9 @@ impl<F: Drop> PinSlotMap<F> {
         }
     }
 
-    /// The held values by rising slot, each lent for writing.
+    /// Returns an iterator over mutable references to the held values, by rising slot.
     ///
-    /// Takes no memory. Going over all of them takes time in proportion to `capacity`.
+    /// Does not allocate. A whole iteration takes time in proportion to `capacity`.
     pub fn iter_mut(&mut self) -> SlotMapIterMut<'_, F>
         ensures same_map { iter_name result ≡ self.entry.ghost_name }
         ensures slots { iter_slots result ≡ self.old }
@@ -332,24 +334,25 @@ impl<F: Drop> PinSlotMap<F> {
     }
 }
 
-/// The held values of a map by rising slot, each lent for writing until the next one is asked for.
+/// An iterator over mutable references to the held values of a map, by rising slot. Each reference lasts until the next
+/// call of `next`.
 ///
-/// It is no `Iterator` of std, since an item is lent by the iterator and not by the map: that way the map stays whole
-/// between two items. After as many items as the map holds it answers `None`.
+/// It is no `Iterator` of std, since an item borrows from the iterator and not from the map. So the map stays whole
+/// between two items. After as many items as the map holds it returns `None`.
 #[derive(Drop)]
 pub struct SlotMapIterMut<'a, F> {
     map: &'a mut PinSlotMap<F>,
-    // The first slot that was not looked at yet.
+    // The first slot that the iterator has not yet looked at.
     from: usize,
 }
 
 impl<'a, F: Drop> SlotMapIterMut<'a, F> {
     ghost use Rattle.futures_buffered_core.specs.SlotMapIterMut.{iter_slots, iter_from, lends_next};
 
-    /// The value of the first slot, of those not passed yet, that holds one. `None` once there is no such slot, and
-    /// from then on.
+    /// Returns a mutable reference to the next held value. Returns `None` once no further slot holds a value, and from
+    /// then on.
     ///
-    /// Takes no memory, and time in proportion to the slots that it passes.
+    /// Does not allocate. Takes time in proportion to the slots that it passes.
     pub fn next(&mut self) -> Option<&mut F>
         ensures* writes_back { sem 𝓛 (lends_next F.row self.entry result) }
         ensures value { IfSome result (λ f. (i : ℕ)

@@ -1,21 +1,22 @@
-//! Where a fresh wake finds the waker of the task.
+//! The place in which a wake finds the waker of the task.
 //!
-//! A wake puts its slot into the list first, and looks here then. One word says that a waker is kept here, that none
-//! is, or that somebody has the place. Nobody waits. A wake reads the word, tries one compare-exchange where a waker is
-//! kept, and stores that none is once it has taken that out. A poller reads the word too. Where none is kept and no
-//! other source puts wakers in here, it writes its waker and stores that one is kept: until then no other call changes
-//! the word. Else it tries one compare-exchange, and stores behind it. No wake is lost by that, in whatever order the
-//! steps come.
+//! A wake first enqueues its slot in the list, and then looks here. One word says that a waker is kept here, that none
+//! is, or that a call is at the place. No call waits.
 //!
-//! - The poller puts its waker in before it reads the tail that lets it answer `Empty`. A wake whose slot went into the
-//!   tail before that read makes the poller answer `Pause`, after which the task polls again. A wake whose slot went in
-//!   later finds the waker, unless another wake took it out in between: that one wakes the task.
-//! - A wake that finds another wake at the place leaves the task to it. That one wakes the task.
-//! - A wake that finds the poller at the place, or no waker, also while the poller writes its own, leaves its slot to
+//! A wake reads the word. If a waker is kept, it tries one compare-exchange; if that succeeds, it takes the waker, and
+//! stores that none is kept. A poller reads the word too. If none is kept and no other source publishes here, the
+//! poller writes its waker and stores that one is kept. Until then no other call changes the word. Otherwise it tries
+//! one compare-exchange, and stores after it. No wake is lost by that, in whatever order the steps come.
+//!
+//! - The poller publishes its waker before it reads the tail that lets it return `Empty`. If a wake swaps its slot into
+//!   the tail before that read, the poller returns `Pause`, and the task polls again. If a wake swaps its slot in
+//!   later, it finds the waker, unless another wake took it in between. That other wake wakes the task.
+//! - A wake that finds another wake at the place leaves the task to it. That other wake wakes the task.
+//! - A wake may find the poller at the place, or no waker, also while the poller writes its own. It leaves its slot to
 //!   the poller, which reads the tail later, or to the wake that took the waker.
-//! - A poller that is to put its waker in and finds a wake at the place wakes the task itself.
+//! - A poller that has to publish its waker and finds a wake at the place wakes the task itself.
 //!
-//! Every step is sequentially consistent, so all of them stand in one order.
+//! Every step is sequentially consistent, so all steps are in one order.
 ghost use Rattle.std.specs.Prelude.{◌≡◌, ◌⊎◌, ℕ, true, false, Option, None, IfOk, IsSomeAnd, length};
 ghost use Rattle.futures.specs.Pool.Ids.{TableId-set};
 ghost use Rattle.std.specs.Arc.{arc_value};
@@ -40,8 +41,8 @@ impl OuterWaker for Waker {
     }
 }
 
-/// What one wake made: the seat of its steps at the list, and the seat of its steps at the place if its mark was newly
-/// set. Only [`WakerPlace::wake`] puts two seats together, and the seats have no bytes.
+/// What one wake made: the seat of its steps at the list, and, if its mark was newly set, the seat of its steps at the
+/// place. Only [`WakerPlace::wake`] puts two seats together, and the seats have no bytes.
 #[derive(Drop)]
 pub struct WakeMade<O> {
     listed: WakeSeat,
@@ -60,7 +61,7 @@ impl<O> Model for WakeMade<O> {
 }
 
 impl<O> WakeMade<O> {
-    /// The wake of a slot that was marked, which looks for no waker.
+    /// Returns the wake of a slot that was marked, which looks for no waker.
     pub fn marked(listed: WakeSeat) -> WakeMade<O>
         ensures { (result.listed ≡ listed) × (result.placed ≡ None) }
     {
@@ -71,8 +72,7 @@ impl<O> WakeMade<O> {
     }
 }
 
-/// What sources that stand beside one another share with all their wakers. No call waits, and none but `new` takes
-/// memory.
+/// What sibling sources share with all their wakers. No call waits, and only `new` allocates.
 #[derive(Drop)]
 pub struct WakerPlace<O> {
     source: Source,
@@ -90,7 +90,7 @@ impl<O> Model for WakerPlace<O> {
 }
 
 impl<O: OuterWaker> WakerPlace<O> {
-    /// Keeps no waker at first. Gives the seat that puts in.
+    /// Makes a place that keeps no waker. Returns it with the seat that publishes. Allocates.
     pub fn new(alloc: Global) -> Result<(WakerPlace<O>, PutSeat<O>), AllocError>
         ensures { IfOk result (λ r. r.1 ≡ putter r.0.place true no_history) }
     {
@@ -99,12 +99,12 @@ impl<O: OuterWaker> WakerPlace<O> {
         Ok((WakerPlace { source, kept }, seat))
     }
 
-    /// Takes the waker that is kept and wakes it, unless another call is at the place. Of many wakes after one
-    /// registration one takes it, and each later one costs a load.
+    /// Takes the task's waker and wakes it, unless another call is at the place. Of many wakes after one registration
+    /// one takes the waker; each later one costs one load.
     ///
-    /// The seat shows that a wake has newly set its mark and put its slot into the list: no wake looks here earlier. It
-    /// is returned with a seat of the place. That seat shows that this call took the waker, or found none or another
-    /// call there, once the steps at the list were made.
+    /// `listed` shows that a wake has newly set its mark and enqueued its slot: no wake looks here earlier. It is
+    /// returned with a seat of the place. That seat shows that this call took the waker, or found none or another call
+    /// there, after the steps of the wake at the list.
     pub fn wake(&self, listed: WakeSeat) -> WakeMade<O>
         requires { (slot : ℕ) × IsWake slot listed.steps Fresh }
         ensures listed { result.listed ≡ listed }
@@ -120,8 +120,8 @@ impl<O: OuterWaker> WakerPlace<O> {
         }
     }
 
-    /// Keeps a waker in place of the one before, which is let go once this call has left the place. Where another call
-    /// is there, it wakes the waker at once.
+    /// Publishes a waker. Drops the waker that it replaces after this call has left the place. If another call is at
+    /// the place, publishes nothing and wakes `outer`.
     pub fn put_in<T: ListSeat>(&self, seat: &mut PutSeat<O>, outer: O, shown: &T)
         requires { seat.old.place ≡ self.now.place }
         ensures place { seat.new.place ≡ seat.old.place }
@@ -136,15 +136,15 @@ impl<O: OuterWaker> WakerPlace<O> {
 
 /// The poller's side.
 ///
-/// The task's waker is kept here from its registration on, and is put into the shared place only before the poller can
-/// answer `Empty`. So a poll that ends with an output puts nothing there, and nobody wakes a task that polls again by
-/// itself. Where the poller has none, a registration takes back the waker that the place keeps.
+/// The task's waker is kept here from its registration on. A dequeue publishes it only before it can return `Empty`. So
+/// a poll that returns an output publishes nothing, and no wake wakes a task that polls again by itself. If the poller
+/// has none, a registration takes back the waker that the place keeps.
 ///
-/// A poll that asks sources beside one another asks the one that registered first. One of them that still has the waker
-/// of an earlier poll puts it in as well, and the waker that it replaces wakes the task.
+/// A poll of sibling sources dequeues first from the one that registered. A sibling that still has the waker of an
+/// earlier poll publishes it too, and the waker that it replaces wakes the task.
 ///
-/// Its calls are handed the place. A contract sees which place that is, the waker that it has, and those that it put in
-/// and took back.
+/// Each call is given the place. A contract sees which place that is, the waker that it has, and those that it
+/// published and took back.
 #[derive(Drop)]
 pub struct PollerWaker<O> {
     seat: PutSeat<O>,
@@ -162,8 +162,8 @@ impl<O> Model for PollerWaker<O> {
 }
 
 impl<O: OuterWaker> PollerWaker<O> {
-    /// Makes the place of a source that has its own, and the side of its poller. Allocates both in one block, and what
-    /// the place needs.
+    /// Makes the place of a source without siblings, and the side of its poller. Allocates one block for the place, and
+    /// what the place needs.
     pub fn alone(alloc: Global) -> Result<(Arc<WakerPlace<O>>, PollerWaker<O>), AllocError>
         ensures new { IfOk result (λ r. IsNewPoller None no_history r.1) }
         ensures place { IfOk result (λ r. r.1.place ≡ (arc_value r.0).place) }
@@ -173,7 +173,7 @@ impl<O: OuterWaker> PollerWaker<O> {
         Ok((shared, PollerWaker { seat, own: None }))
     }
 
-    /// Makes the side of a source beside this one. What is kept here goes to the place that both share, as by `put_in`.
+    /// Makes the side of a sibling source. Publishes the waker that is kept here, if any, as `put_in` does.
     pub fn beside<T: ListSeat>(&mut self, place: &WakerPlace<O>, shown: &T) -> PollerWaker<O>
         requires { self.old.place ≡ place.now.place }
         ensures place { (result.place ≡ self.old.place) × (self.new.place ≡ self.old.place) }
@@ -185,7 +185,7 @@ impl<O: OuterWaker> PollerWaker<O> {
         PollerWaker { seat, own: None }
     }
 
-    /// Keeps a waker in the shared place, as [`WakerPlace::put_in`] does.
+    /// Publishes a waker, as [`WakerPlace::put_in`] does.
     pub fn put_in<T: ListSeat>(&mut self, place: &WakerPlace<O>, outer: O, shown: &T)
         requires { self.old.place ≡ place.now.place }
         ensures same { self.new.place ≡ self.old.place }
@@ -198,7 +198,7 @@ impl<O: OuterWaker> PollerWaker<O> {
 }
 
 impl<O: OuterWaker> PollerWaker<O> {
-    // Takes back the waker that the place keeps, if none is here.
+    // Takes back the waker that the place keeps, if none is kept here.
     fn take_back<T: ListSeat>(&mut self, place: &WakerPlace<O>, shown: &T)
         requires { self.old.place ≡ place.now.place }
         ensures alone { self.new.alone ≡ self.old.alone }
@@ -212,8 +212,8 @@ impl<O: OuterWaker> PollerWaker<O> {
 }
 
 impl PollerWaker<Waker> {
-    /// Keeps the task's waker here. If none is here, it takes back the one that the place keeps. The waker of another
-    /// task is woken.
+    /// Keeps the task's waker here. If none is kept here, it first takes back the one that the place keeps. A waker of
+    /// another task is woken.
     ///
     /// If no waker can be made, the task is woken.
     pub fn register<T: ListSeat>(
@@ -237,7 +237,7 @@ impl PollerWaker<Waker> {
 }
 
 impl<O: OuterWaker> PollerWaker<O> {
-    // Puts the waker, if one is kept here, where wakes find it, as by `put_in`.
+    // Publishes the waker that is kept here, if any, as `put_in` does.
     #[inline(never)]
     pub(crate) fn give_up_own<T: ListSeat>(&mut self, place: &WakerPlace<O>, shown: &T)
         requires { self.old.place ≡ place.now.place }
@@ -249,7 +249,7 @@ impl<O: OuterWaker> PollerWaker<O> {
     }
 }
 
-/// The poller's side with its place, for one taking.
+/// The poller's side with its place, for one dequeue.
 #[derive(Drop)]
 pub struct AtPlace<'p, O> {
     place: &'p WakerPlace<O>,

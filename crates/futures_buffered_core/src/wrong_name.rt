@@ -1,15 +1,15 @@
-//! The search of a list of entries for the first that names a slot which is not there.
+//! The search of a list of entries for the first whose slot is out of range.
 ghost use Rattle.std.specs.Prelude.{◌≡◌, ◌↔◌, ℕ, Some, IfNone, IfSome, length};
 ghost use Rattle.futures_buffered_core.specs.WrongName.{AllNamesBelow, IsFirstWrong};
 
 use crate::ready_core::{Event, Taken};
 
-/// An entry that may name a slot.
+/// An entry that may have a slot.
 pub trait NamesSlot {
-    // The entry that names this slot.
+    // The entry that has this slot.
     ghost naming: { ℕ → Self };
 
-    /// The slot that it names.
+    /// Returns the slot that it has.
     fn named(&self) -> Option<usize>
         ensures { (i : ℕ) → (result ≡ Some i) ↔ (self.now ≡ naming i) };
 }
@@ -40,7 +40,7 @@ impl NamesSlot for Taken {
     }
 }
 
-/// The position of the first entry that names a slot not below `cap`.
+/// Returns the position of the first entry whose slot is not below `cap`.
 pub fn first_wrong<X: NamesSlot>(entries: &[X], cap: usize) -> Option<usize>
     ensures none { IfNone result (AllNamesBelow X.naming cap entries.now) }
     ensures wrong { IfSome result (IsFirstWrong X.naming cap entries.now) }

@@ -1,5 +1,5 @@
-//! A place for one value on an atomic word, in which pollers leave a waker and from which wakes take it out: no call
-//! waits, and each seat shows what it put in and took out.
+//! A place for one value with one atomic word. Pollers publish a waker there, and wakes take it. No call waits, and
+//! each seat shows what it published and took.
 //!
 //! In the order in which to read the parts:
 //!

@@ -14,13 +14,13 @@ use atomic_table::{Seat, Table};
 use std::alloc::{AllocError, Global};
 use std::marker::Model;
 
-// None is kept.
+// No value is kept.
 const FREE: u64 = 0;
 
-// One is kept.
+// A value is kept.
 const PRESENT: u64 = 1;
 
-// A seat has the slot.
+// A seat has claimed the slot.
 const TAKEN: u64 = 3;
 
 /// A place for one value, which any number of threads may share by a `&`. No call waits.
@@ -42,7 +42,7 @@ impl<O> Model for Place<O> {
     ghost invariant = { λ p. IsSized p.table.shared.table_id };
 }
 
-/// A seat that puts in and takes out. Callers see the values that it put in and took out.
+/// A seat that publishes and takes values. A contract sees the values that it published and took.
 #[derive(Drop)]
 pub struct PutSeat<O> {
     seat: Seat<Option<O>, View<O>>,
@@ -62,7 +62,7 @@ impl<O> Model for PutSeat<O> {
     ghost invariant = { λ s. KeepsPutter s.seat.me s.alone };
 }
 
-/// A seat that takes out.
+/// A seat that only takes values.
 #[derive(Drop)]
 pub struct TakeSeat<O> {
     seat: Seat<Option<O>, View<O>>,
@@ -78,17 +78,17 @@ impl<O> Model for TakeSeat<O> {
     ghost view = { λ s. seated s.seat.table_id s.seat.me.0.steps };
 }
 
-/// What became of a value that was to be put in.
+/// What a call that publishes a value returns.
 #[derive(Drop)]
 pub enum Put<O> {
-    /// It is kept, in place of this one.
+    /// The value is kept, in place of this one, if any.
     Kept(Option<O>),
-    /// Another seat was at the place, and this value was not put in.
+    /// Another seat was at the place, and this value was not published.
     Busy(O),
 }
 
 impl<O> Place<O> {
-    // Reads the word as the only poller. Where none is kept, the slot is the poller's from here on.
+    // Reads the word as the only poller. If no value is kept, the slot is the poller's from here on.
     fn look_alone<J: Shown>(&self, seat: &mut Seat<Option<O>, View<O>>) -> u64
         requires { RestsAs Alone self.now seat.old }
         ensures { Goes seat.old (alone_looks J.made seat.old.me.0 result) seat.new }
@@ -104,7 +104,7 @@ impl<O> Place<O> {
         self.table.shared.load::<Looks<J>>(seat, 0)
     }
 
-    // Goes for the slot while none is kept, and answers what the word was.
+    // Claims the slot if no value is kept, and returns what the word was.
     fn win_free<J: Shown>(&self, seat: &mut Seat<Option<O>, View<O>>) -> u64
         requires { RestsAs Beside self.now seat.old }
         ensures { Goes seat.old (free_taken J.made seat.old.me.0 result) seat.new }
@@ -114,7 +114,7 @@ impl<O> Place<O> {
             .compare_exchange::<TakesFree<J>>(seat, 0, FREE, TAKEN)
     }
 
-    // Goes for what is kept, and answers what the word was.
+    // Claims the slot if a value is kept, and returns what the word was.
     fn win<J: Shown>(&self, seat: &mut Seat<Option<O>, View<O>>) -> u64
         requires { Rests self.now seat.old }
         ensures { (seat.new.table_id ≡ seat.old.table_id) × TellsTaking J.made seat.old.me.0 result seat.new.me }
@@ -124,7 +124,7 @@ impl<O> Place<O> {
             .compare_exchange::<Takes<J>>(seat, 0, PRESENT, TAKEN)
     }
 
-    // Writes the slot and leaves it with its value, and answers what was there.
+    // Writes the value into the slot and releases the slot. Returns what was in the slot.
     fn fill<J: Shown>(&self, seat: &mut Seat<Option<O>, View<O>>, outer: O) -> Option<O>
         requires { HasSlot self.now seat.old }
         ensures { (seat.old.me.1 ≡ (0, result) ∷ []) × Goes seat.old (puts_next J.made seat.old.me.0 outer, []) seat.new }
@@ -134,7 +134,7 @@ impl<O> Place<O> {
         before
     }
 
-    // Takes what is in the slot, and leaves it empty.
+    // Takes what is in the slot, and releases the slot empty.
     fn empty<J: Shown>(&self, seat: &mut Seat<Option<O>, View<O>>) -> Option<O>
         requires { HasSlot self.now seat.old }
         ensures { (seat.old.me.1 ≡ (0, result) ∷ []) × Goes seat.old (leaves_next J.made seat.old.me.0, []) seat.new }
@@ -146,7 +146,7 @@ impl<O> Place<O> {
 }
 
 impl<O> Place<O> {
-    // Puts the value in, by the only poller.
+    // Publishes the value, as the only poller.
     fn put_alone<J: Shown>(&self, seat: &mut Seat<Option<O>, View<O>>, outer: O) -> Put<O>
         requires { RestsAs Alone self.now seat.old }
         ensures seat { (seat.new.table_id ≡ seat.old.table_id) × (seat.new.me.1 ≡ []) }
@@ -181,7 +181,7 @@ impl<O> Place<O> {
         Put::Kept(self.fill::<J>(seat, outer))
     }
 
-    // Takes out what is kept.
+    // Takes the value that is kept, if any.
     fn take<J: Shown>(&self, seat: &mut Seat<Option<O>, View<O>>) -> Option<O>
         requires { Rests self.now seat.old }
         ensures seat { (seat.new.table_id ≡ seat.old.table_id) × (seat.new.me.1 ≡ []) }
@@ -200,10 +200,12 @@ impl<O> Place<O> {
         self.table.shared.load_new_seat::<LooksAnew<J>>(0)
     }
 
-    /// Keeps a value in place of the one before, unless another seat is at the place.
+    /// Publishes the value in place of the one before, and returns the one before. If another seat is at the place,
+    /// publishes nothing and returns the value.
     ///
-    /// For a seat that stands alone it is one load and one store if none is kept. Otherwise it is a load, a
-    /// compare-exchange and a store. It does not allocate. Each step is noted, with the number that the caller shows.
+    /// A seat that is alone makes one load and one store if no value is kept. Otherwise the call makes at most a load,
+    /// a compare-exchange and a store. Does not allocate. Records each of these steps with the number of steps that the
+    /// caller shows.
     pub fn put_in<J: Shown, T>(&self, seat: &mut PutSeat<O>, outer: O, _shown: &T) -> Put<O>
         requires { seat.old.place ≡ self.now }
         ensures place { seat.new.place ≡ seat.old.place }
@@ -217,8 +219,9 @@ impl<O> Place<O> {
         }
     }
 
-    /// Takes out what is kept, unless another seat is at the place: one load, and if one is kept a compare-exchange and
-    /// a store. It does not allocate. Each step is noted, with the number that the caller shows.
+    /// Takes the value that is kept. Returns `None` if no value is kept, or if another seat is at the place.
+    ///
+    /// Makes one load and, if a value is kept, at most a compare-exchange and a store. Does not allocate.
     pub fn take_out<J: Shown, T>(&self, seat: &mut PutSeat<O>, _shown: &T) -> Option<O>
         requires { seat.old.place ≡ self.now }
         ensures place { seat.new.place ≡ seat.old.place }
@@ -228,7 +231,7 @@ impl<O> Place<O> {
         self.take::<J>(&mut seat.seat)
     }
 
-    /// Takes out what is kept as [`take_out`](Place::take_out) does, by a seat that is made with the load.
+    /// Takes the value that is kept, as [`take_out`](Place::take_out) does, by a seat that is made with the load.
     pub fn take_anew<J: Shown, T>(&self, _shown: &T) -> (Option<O>, TakeSeat<O>)
         ensures place { result.1.place ≡ self.now }
         ensures taken { TakesOut J.made no_history result.0 result.1.did }
@@ -241,7 +244,7 @@ impl<O> Place<O> {
         (outer, TakeSeat { seat })
     }
 
-    /// Keeps none at first. Takes memory, and none later.
+    /// Makes a place that keeps no value. Returns it with a seat that publishes. Allocates; no later call allocates.
     pub fn new(alloc: Global) -> Result<(Place<O>, PutSeat<O>), AllocError>
         ensures { IfOk result (λ r. r.1 ≡ putter r.0 true no_history) }
     {
@@ -251,7 +254,7 @@ impl<O> Place<O> {
 }
 
 impl<O> PutSeat<O> {
-    /// A second seat of its place that puts in, by one load. From now on neither stands alone.
+    /// Returns a second seat of its place that publishes, by one load. From then on neither seat is alone.
     pub fn beside(&mut self, place: &Place<O>) -> PutSeat<O>
         requires { self.old.place ≡ place.now }
         ensures same { self.new ≡ record self.old { alone = false } }

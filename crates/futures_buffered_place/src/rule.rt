@@ -1,9 +1,10 @@
-//! The rule of a place, and what each step tells.
+//! The rule of a place, and what each step says.
 use crate::view::{Shown, View};
 use atomic_table::{Play, Split, TableRule};
 use std::marker::PhantomData;
 
-/// What was put in is what was taken out and what is kept; and one seat at most has the slot.
+/// The values that were published are the values that were taken and the value that is kept. At most one seat has the
+/// slot.
 pub struct PlaceRule;
 
 impl<O> TableRule<Option<O>, View<O>, ()> for PlaceRule {
@@ -14,7 +15,7 @@ impl<O> TableRule<Option<O>, View<O>, ()> for PlaceRule {
     ghost first = { λ _. first_poller };
 }
 
-/// The only poller reads the word, to put in.
+/// The only poller reads the word, to publish a value.
 pub struct LooksAlone<J>(PhantomData<J>);
 
 impl<J: Shown, O> Play<Option<O>, View<O>> for LooksAlone<J> {
@@ -34,7 +35,7 @@ impl<J: Shown, O> Play<Option<O>, View<O>> for Looks<J> {
     ghost then = { λ _ me found after. after ≡ (looks J.made me.0 found, []) };
 }
 
-/// A seat goes for what is kept.
+/// A seat tries to claim the slot while a value is kept.
 pub struct Takes<J>(PhantomData<J>);
 
 impl<J: Shown, O> Play<Option<O>, View<O>> for Takes<J> {
@@ -43,7 +44,7 @@ impl<J: Shown, O> Play<Option<O>, View<O>> for Takes<J> {
     ghost then = { λ _ me found after. TellsTaking J.made me.0 found after };
 }
 
-/// A seat leaves a value in the slot.
+/// A seat releases the slot with a value.
 pub struct Puts<J>(PhantomData<J>);
 
 impl<J: Shown, O> Play<Option<O>, View<O>> for Puts<J> {
@@ -53,7 +54,7 @@ impl<J: Shown, O> Play<Option<O>, View<O>> for Puts<J> {
     ghost then = { λ _ me _ after. after ≡ after_put J.made me };
 }
 
-/// A seat leaves the slot empty.
+/// A seat releases the slot empty.
 pub struct Leaves<J>(PhantomData<J>);
 
 impl<J: Shown, O> Play<Option<O>, View<O>> for Leaves<J> {
@@ -63,7 +64,7 @@ impl<J: Shown, O> Play<Option<O>, View<O>> for Leaves<J> {
     ghost then = { λ _ me _ after. after ≡ (leaves_next J.made me.0, []) };
 }
 
-/// A poller beside others goes for the slot while none is kept.
+/// One of several pollers tries to claim the slot while no value is kept.
 pub struct TakesFree<J>(PhantomData<J>);
 
 impl<J: Shown, O> Play<Option<O>, View<O>> for TakesFree<J> {
@@ -73,7 +74,7 @@ impl<J: Shown, O> Play<Option<O>, View<O>> for TakesFree<J> {
     ghost then = { λ _ me found after. after ≡ free_taken J.made me.0 found };
 }
 
-/// A seat that is made with this step reads the word, to take out.
+/// A seat that is made with this step reads the word, to take the value.
 pub struct LooksAnew<J>(PhantomData<J>);
 
 impl<J: Shown, O> Play<Option<O>, View<O>> for LooksAnew<J> {
@@ -83,7 +84,7 @@ impl<J: Shown, O> Play<Option<O>, View<O>> for LooksAnew<J> {
     ghost then = { λ _ _ found after. after ≡ (looks J.made new_taker found, []) };
 }
 
-/// A poller gets another beside it. From then on neither stands alone.
+/// A poller gets another next to it. From then on neither is alone.
 pub struct ToTwo;
 
 impl<O> Split<View<O>> for ToTwo {

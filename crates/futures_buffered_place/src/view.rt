@@ -4,14 +4,14 @@ ghost use Rattle.std.specs.Prelude.{ℕ};
 use std::collections::LinkedList;
 use std::marker::Brand;
 
-/// What a seat may do where the place keeps nothing.
+/// What a seat may do if the place keeps nothing.
 #[derive(Clone, Copy, Debug, PartialEq, Eq)]
 pub enum Right {
-    /// It alone puts in: it may write the slot as soon as it has read that none is kept.
+    /// It alone publishes: it may write the slot as soon as it has read that no value is kept.
     Alone,
-    /// Others put in too: it has to win the word first.
+    /// Others publish too: it has to claim the slot first.
     Beside,
-    /// It takes out only.
+    /// It only takes.
     Wakes,
 }
 
@@ -19,45 +19,45 @@ pub enum Right {
 #[derive(Clone, Copy, Debug, PartialEq, Eq)]
 pub enum Hand {
     Nothing,
-    /// It has the slot under a word that says that none is kept.
+    /// It has the slot, and the word says that no value is kept.
     Filling,
-    /// It has the slot under a word that says so.
+    /// It has the slot, and the word says that a seat has it.
     Taken,
 }
 
-/// An atomic step at the word of a place, with what it found. The word is 0 if none is kept, 1 if one is, and more if a
-/// seat has the slot. No value of this type is made.
+/// An atomic step at the word of a place, with what it found. The word is 0 if no value is kept, 1 if one is, and more
+/// if a seat has claimed the slot. No code makes a value of this type.
 pub enum Deed<O> {
     /// Reads the word: what it holds.
     Look(u64),
-    /// Goes for what is kept, and has it: this value.
+    /// Claims the slot while a value is kept: this value.
     Win(O),
-    /// Goes for the slot while none is kept, and has it.
+    /// Claims the slot while no value is kept.
     WinFree,
-    /// Goes for either, and loses it: what the word holds.
+    /// Fails to claim the slot: what the word holds.
     Lose(u64),
-    /// Leaves this value in the slot.
+    /// Releases the slot with this value.
     Put(O),
-    /// Leaves the slot empty.
+    /// Releases the slot empty.
     Leave,
 }
 
-/// A step at a place, and the number that its caller noted with it ([`Shown`]). No value of this type is made.
+/// A step at a place, and how many steps at the list the owner of the seat showed with it. No code makes a value of
+/// this type.
 pub struct PlaceStep<O> {
     pub after: usize,
     pub deed: Deed<O>,
 }
 
-/// What a seat may do and has in hand, and the steps that it made. No value of it is made.
+/// What a seat may do, what it has in hand, and the steps that it made. No code makes a value of this type.
 pub struct View<O> {
     pub right: Right,
     pub hand: Hand,
     pub steps: LinkedList<PlaceStep<O>>,
 }
 
-/// The number that a caller notes with each step of a call: how many steps it has made elsewhere by then. A caller picks
-/// it at `Brand`, from the argument that it shows. Who hides the place behind calls of its own can fix that pick, as
-/// `futures_buffered_core` does.
+/// How many steps the caller has made elsewhere by now, as it shows. A call at `Brand` takes the number from
+/// what it is shown.
 pub trait Shown {
     ghost made: { ℕ };
 }

@@ -2,7 +2,7 @@
 use Rattle.std.specs.Prelude.{◌≡◌, ℕ, ◌+◌, ◌<◌, ◌≤◌, List}
 use Rattle.futures_buffered_table.specs.Words.{mark}
 
--- so many words, no slot of the table, and each mark is clear or set
+-- the number of words fits the capacity, the table has no slot, and each mark is clear or set
 pub record KeepsClosed (words : List ℕ) (count slots capacity : ℕ) : Type 0 where
   pub wide : count ≡ capacity + capacity + 2
   pub no_slots : slots ≡ 0

@@ -1,6 +1,5 @@
--- What one atomic step of a seat does, over words and a view: which word it changes, to what, what the seat is then,
--- and what the step answers. The entries are the slots 0 to n - 1 and the stub, entry n. A link is 0 for none, or k + 1
--- for the entry k.
+-- What one atomic step of a seat does, over words and a view. It changes one word and the role of the seat, and returns
+-- a reply. The entries are the slots 0 to n - 1 and the stub, entry n. A link is 0 for none, or k + 1 for the entry k.
 use Rattle.std.specs.Prelude.{ℕ, zero, suc, ◌+◌, ◌≤◌, ◌==◌, [], ◌∷◌, ◌++◌, if◌then◌else◌}
 use Rattle.futures_buffered_table.specs.declared.answer.Woke.TheVariants.{Fresh, Already}
 use Rattle.futures_buffered_table.specs.declared.answer.Taken.TheVariants.{Slot, Empty, Pause}
@@ -33,7 +32,7 @@ word_of_role n slot (Polls h (StubPut p)) = n + p
 word_of_role n slot (Polls h StubLinked) = n + h
 word_of_role n slot (Polls h (InHand e)) = e
 
--- what that word becomes, by what was found there: a read leaves it
+-- what that word becomes, by what was found there; a read does not change it
 abbrev pub put_by_role : ℕ → Role → ℕ → ℕ
 put_by_role n Idle found = 1
 put_by_role n (Won e) found = 0
@@ -49,17 +48,18 @@ put_by_role n (Polls h (StubPut p)) found = suc n
 put_by_role n (Polls h StubLinked) found = found
 put_by_role n (Polls h (InHand e)) found = 0
 
--- the poller has read the link of its head h as a taking began
+-- the role of the poller after it read the link of its head `h` as a dequeue began
 abbrev pub after_first_read : ℕ → ℕ → ℕ → Role
 after_first_read n h zero = if h == n then Polls h AtStub else Polls h NoNext
 after_first_read n h (suc q) = if h == n then Polls q Moved else Polls q (InHand h)
 
--- the poller has read the link of its head h, a slot: `none` is the phase where it named none
+-- The role of the poller after it read the link of its head `h`, a slot. The phase is `none` if the link points to no
+-- entry.
 abbrev pub after_slot_read : ℕ → Phase → ℕ → Role
 after_slot_read h none zero = Polls h none
 after_slot_read h none (suc q) = Polls q (InHand h)
 
--- what the seat is after the step
+-- the role of the seat after the step
 abbrev pub next_role : ℕ → ℕ → Role → ℕ → Role
 next_role n slot Idle zero = Won slot
 next_role n slot Idle (suc k) = Idle
@@ -76,7 +76,7 @@ next_role n slot (Polls h (StubPut p)) found = Polls h StubLinked
 next_role n slot (Polls h StubLinked) found = after_slot_read h Start found
 next_role n slot (Polls h (InHand e)) found = Polls h Start
 
--- the step, as the seat's list tells it
+-- the step, as the seat's list of steps has it
 abbrev pub step_of_role : ℕ → ℕ → Role → ℕ → AtomicStep
 step_of_role n slot Idle found = MarkSwap slot found
 step_of_role n slot (Won e) found = LinkClear e
@@ -92,7 +92,7 @@ step_of_role n slot (Polls h (StubPut p)) found = LinkWrite p n
 step_of_role n slot (Polls h StubLinked) found = LinkRead h found
 step_of_role n slot (Polls h (InHand e)) found = Unmark e
 
--- what the step answers: More where its call goes on
+-- what the step returns: `More` if its call continues
 abbrev pub reply_of_role : ℕ → Role → ℕ → StepReply
 reply_of_role n Idle zero = More
 reply_of_role n Idle (suc k) = Woke Already

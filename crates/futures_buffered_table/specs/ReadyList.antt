@@ -1,4 +1,4 @@
--- A list and its seats, as callers see them; and a seat of the table in the midst of a call.
+-- A list and its seats, as callers see them, and a seat of the table in the middle of a call.
 use Rattle.std.specs.Prelude.{ℕ, List, [], ◌∷◌, ◌++◌, ◌≡◌}
 use Rattle.atomic_table.specs.Seated.{TableId}
 use Rattle.futures_buffered_table.specs.declared.view.AtomicStep.{AtomicStep}
@@ -17,13 +17,13 @@ pub record Waker : Type 0 where
   pub list : TableId
   pub steps : List AtomicStep
 
--- the poll seat between two takings: its list, its head, and the steps that it made
+-- the poll seat between two dequeues: its list, its head, and the steps that it made
 pub record Poller : Type 0 where
   pub list : TableId
   pub head : ℕ
   pub steps : List AtomicStep
 
--- the poll seat in the midst of a taking: the steps that it made
+-- the poll seat in the middle of a dequeue: the steps that it made
 pub record Midway : Type 0 where
   pub steps : List AtomicStep
 
@@ -32,10 +32,10 @@ abbrev pub IsInRole : ListIdentity → Role → Seat ℕ View → Type 0
 IsInRole list role seat = (seat.table_id ≡ list.list) × (seat.me.0.stub ≡ list.capacity)
     × (seat.me.0.role ≡ role) × (seat.me.1 ≡ [])
 
--- the seat has made these steps more
+-- from `before` to `now`, the seat made the steps `shape`
 abbrev pub AddsSteps : Seat ℕ View → Seat ℕ View → List AtomicStep → Type 0
 AddsSteps before now shape = now.me.0.steps ≡ before.me.0.steps ++ shape
 
--- it made the steps that put a slot into the row as its last entry
+-- the seat made the steps that enqueue a slot as the last entry of the row
 abbrev pub PutsInRow : ℕ → Seat ℕ View → Seat ℕ View → Type 0
 PutsInRow slot before now = (p : ℕ) × AddsSteps before now (LinkClear slot ∷ TailSwap slot p ∷ LinkWrite p slot ∷ [])

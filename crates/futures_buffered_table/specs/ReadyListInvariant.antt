@@ -26,7 +26,7 @@ pub record KeepsWaker (table : TableId) (me : Me ℕ View) : Type 0 where
   pub seat : KeepsSeat table me Idle
   pub wakes : (e : ℕ) → unmarks e me.0.steps ≡ 0
 
--- the poll seat begins a taking next, and its head is an entry
+-- the poll seat begins a dequeue next, and its head is an entry
 pub record KeepsPoller (table : TableId) (me : Me ℕ View) (head : ℕ) : Type 0 where
   pub seat : KeepsSeat table me (Polls head Start)
   pub low : head ≤ me.0.stub

@@ -1,5 +1,5 @@
--- A schedule: which steps of the wake seats and one poll seat, the seat after them, are made in which order. It
--- determines every word, every view and every reply.
+-- A schedule: which steps of the wake seats and the poll seat are made in which order. The poll seat is the one after
+-- the wake seats. A schedule determines every word, every view and every reply.
 use Rattle.std.specs.Prelude.{◌≡◌, ℕ, List, [], ◌∷◌, map, slice_index, slice_index_or, slice_set, take}
 use mathlib.Core.Option.{some}
 use lib.ListN.{get_elem?}
@@ -17,7 +17,7 @@ pub record Moment : Type 0 where
   pub words : List ℕ
   pub views : List View
 
--- no mark, no link, the stub as the tail; idle wake seats, and a poll seat whose head is the stub
+-- no mark, no link, and the stub as the tail; idle wake seats, and a poll seat whose head is the stub
 abbrev pub at_start : ℕ → Moment
 at_start n = record { words = empty_words n; views = first_views WAKE_SEATS n }
 
@@ -52,12 +52,12 @@ abbrev pub Legal : ℕ → Moment → List Step → Type 0
 Legal n c [] = Unit {0}
 Legal n c (s ∷ ss) = CanStep n (map role_of c.views) s × Legal n (after_step n c s) ss
 
--- what they are answered
+-- the replies of these steps, in order
 abbrev pub replies_of : ℕ → Moment → List Step → List StepReply
 replies_of n c [] = []
 replies_of n c (s ∷ ss) = reply_of_role n (view_at c s).role (found_at n c s) ∷ replies_of n (after_step n c s) ss
 
--- the steps before the k-th can be made, and it cannot
+-- the steps before the `k`-th can be made, and the `k`-th cannot
 abbrev pub IsStuckAt : ℕ → List Step → ℕ → Type 0
 IsStuckAt n steps k = let before = take k steps in Legal n (at_start n) before
     × ((s : Step) × (get_elem? steps k ≡ some s)

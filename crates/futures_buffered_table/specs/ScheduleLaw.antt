@@ -1,5 +1,5 @@
--- What a schedule keeps, told from its steps and their replies alone: in which order slots are answered, and what Empty
--- and Pause say. No word, link or view is spoken of.
+-- What holds of every schedule, by its steps and their replies alone: in which order slots are dequeued, and what Empty
+-- and Pause say. No fact here uses a word, a link or a view.
 use Rattle.std.specs.Prelude.{◌≡◌, ◌⊎◌, ℕ, suc, ◌<◌, ◌==◌, if◌then◌else◌, List, [], ◌∷◌, ◌++◌}
 use Rattle.futures_buffered_table.specs.declared.answer.Taken.TheVariants.{Slot, Empty, Pause}
 use Rattle.futures_buffered_table.specs.declared.step.Step.{Step}
@@ -9,17 +9,17 @@ use Rattle.futures_buffered_table.specs.declared.step.StepReply.TheVariants.{Mor
 use Rattle.futures_buffered_table.specs.declared.step.TheConstants.{WAKE_SEATS}
 use Rattle.futures_buffered_table.specs.Step.{seat_of}
 
--- a step that was made, with its reply; of a history the newest stands first
+-- a step that was made, with its reply; a history has the newest first
 pub record Made : Type 0 where
   pub step : Step
   pub reply : StepReply
 
--- a wake under way: its slot, and how many of its four steps are made; no wake is under way where none is made
+-- a wake under way: its slot, and how many of its four steps are made; `made` is 0 if no wake is under way
 pub record Wake : Type 0 where
   pub slot : ℕ
   pub made : ℕ
 
--- what this step of the seat makes of its wake
+-- the wake of the seat after this step of the seat
 abbrev pub wake_after : Step → StepReply → Wake → Wake
 wake_after (Mark seat i) More w = record { slot = i; made = 1 }
 wake_after (Go seat) More w = record { slot = w.slot; made = suc w.made }
@@ -32,58 +32,58 @@ wake_of seat (t ∷ past) =
     if seat_of t.step == seat then wake_after t.step t.reply (wake_of seat past)
     else wake_of seat past
 
--- the third step of a wake, its tail swap, puts its slot in
+-- the third step of a wake, its tail swap, enqueues its slot
 abbrev pub put_in_by : Step → StepReply → Wake → List ℕ
 put_in_by (Go seat) More w = if w.made == 2 then w.slot ∷ [] else []
 put_in_by _ _ w = []
 
--- the slots put in, in order
+-- the enqueued slots, in order
 abbrev pub put_in : List Made → List ℕ
 put_in [] = []
 put_in (t ∷ past) = put_in past ++ put_in_by t.step t.reply (wake_of (seat_of t.step) past)
 
--- the slot that a reply names
+-- the slot that a reply returns, if any
 abbrev pub slot_named : StepReply → List ℕ
 slot_named (Taken (Slot i)) = i ∷ []
 slot_named _ = []
 
--- the slots answered, in order
+-- the dequeued slots, in order
 abbrev pub answered : List Made → List ℕ
 answered [] = []
 answered (t ∷ past) = answered past ++ slot_named t.reply
 
--- some waker stands between its tail swap, its third step, and its link write, its fourth
+-- some wake seat is between its tail swap, its third step, and its link write, its fourth
 abbrev pub WakerStands : List Made → Type 0
 WakerStands past = (seat : ℕ) × (seat < WAKE_SEATS) × ((wake_of seat past).made ≡ 3)
 
--- by the kind of step: a poll's that ends no taking, a poll's that ends one, or a wake's
+-- by the kind of step: the poller continues a dequeue, the poller ends one, or a wake makes a step
 abbrev pub by_kind : Type 0 → Type 0 → Type 0 → Step → StepReply → Type 0
 by_kind goes_on ends wakes Poll More = goes_on
 by_kind goes_on ends wakes Poll _ = ends
 by_kind goes_on ends wakes _ _ = wakes
 
--- a taking is under way
+-- a dequeue is under way
 abbrev pub IsUnderWay : List Made → Type 0
 IsUnderWay [] = ⊥
 IsUnderWay (t ∷ past) = by_kind (Unit {0}) ⊥ (IsUnderWay past) t.step t.reply
 
--- a taking is under way, and some waker stood so when a step of it was made, or since
+-- a dequeue is under way, and some wake seat was between tail swap and link write when a step of it was made, or since
 abbrev pub WakerStood : List Made → Type 0
 WakerStood [] = ⊥
 WakerStood (t ∷ past) = by_kind (WakerStands past ⊎ WakerStood past) ⊥
     ((IsUnderWay past × WakerStands (t ∷ past)) ⊎ WakerStood past) t.step t.reply
 
--- the slots answered are a beginning of those put in
+-- the dequeued slots are a beginning of the enqueued slots
 abbrev pub AnswersInOrder : List Made → Type 0
 AnswersInOrder history = (rest : List ℕ) × (put_in history ≡ answered history ++ rest)
 
--- where a taking has just answered Empty, by its tail read, all slots put in had been answered
+-- if a dequeue has just returned Empty, all slots that were enqueued before its tail read had been dequeued
 abbrev pub EmptyIsTrue : List Made → Type 0
 EmptyIsTrue [] = Unit {0}
 EmptyIsTrue (t ∷ past) = t.reply ≡ Taken Empty → put_in past ≡ answered past
 
--- where a taking has just answered Pause, some waker stood between its tail swap and its link write at some moment of
--- that taking
+-- if a dequeue has just returned Pause, some wake seat was between its tail swap and its link write at some moment of
+-- that dequeue
 abbrev pub PauseHasCause : List Made → Type 0
 PauseHasCause [] = Unit {0}
 PauseHasCause (t ∷ past) = t.reply ≡ Taken Pause → WakerStands past ⊎ WakerStood past

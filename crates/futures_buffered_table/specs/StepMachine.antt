@@ -1,4 +1,4 @@
--- The machine of single steps as its caller sees it, and how it goes along a schedule.
+-- The machine of single steps as its caller sees it, and how it follows a schedule.
 use Rattle.std.specs.Prelude.{◌≡◌, ℕ, List, [], ◌∷◌, ◌++◌, map, slice_index, slice_set}
 use Rattle.futures_buffered_table.specs.declared.view.Role.{Role}
 use Rattle.futures_buffered_table.specs.declared.step.Step.{Step}
@@ -14,7 +14,7 @@ use Rattle.futures_buffered_table.specs.Whereabouts.{Whereabouts}
 pub record Machine : Type 0 where
   pub capacity : ℕ
   pub words : List ℕ
-  -- of the wake seats and the poll seat, the one after them
+  -- the roles of the wake seats, and then the role of the poll seat
   pub roles : List Role
 
 -- these are the words and roles of this moment
@@ -29,7 +29,7 @@ IsNew n m = (m.capacity ≡ n) × AreThoseOf m.words m.roles (at_start n)
 abbrev pub CanMake : Machine → Step → Type 0
 CanMake m step = CanStep m.capacity m.roles step
 
--- what the step makes of the machine, and what it answers
+-- how the step changes the machine, and what it returns
 abbrev pub MakesStep : Machine → Step → Machine → StepReply → Type 0
 MakesStep old step new reply =
     let n = old.capacity in let seat = seat_of step in let slot = slot_of step in
@@ -53,13 +53,14 @@ IsLedTo m = (schedule : List Step) × Leads schedule m
 abbrev pub replies_to : Machine → List Step → List StepReply
 replies_to m schedule = replies_of m.capacity (at_start m.capacity) schedule
 
--- each schedule that led to the old machine leads, with the step at its end, to the new one, and this reply comes last
+-- each schedule that led to the old machine leads, with the step added at its end, to the new one, and `reply` comes
+-- last
 abbrev pub LeadsOn : Machine → Step → Machine → StepReply → Type 0
 LeadsOn old step new reply = (schedule : List Step) → Leads schedule old →
     Leads (schedule ++ step ∷ []) new
     × (replies_to new (schedule ++ step ∷ []) ≡ replies_to old schedule ++ reply ∷ [])
 
--- with the lists of steps that a schedule which leads here makes, each slot is in its one place and no mark is lost
+-- for each schedule that leads here, by the views that it makes, each slot is in its one place and no mark is lost
 abbrev pub PlacesSlots : Machine → Type 0
 PlacesSlots m = (schedule : List Step) → Leads schedule m →
     let views = (run m.capacity (at_start m.capacity) schedule).views in

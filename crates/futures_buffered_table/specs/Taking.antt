@@ -1,5 +1,5 @@
--- The shapes of a taking: which steps it makes, with what was found, for each answer. There is no other shape. In each,
--- h is the poller's head before these steps, and `head` its head after them.
+-- The shapes of a dequeue: which steps it makes, with what was found, for each result. There is no other shape. In
+-- each, `h` is the poller's head before these steps, and `head` its head after them.
 use Rattle.std.specs.Prelude.{◌≡◌, ◌≢◌, ◌<◌, ◌≤◌, ◌⊎◌, ℕ, suc, List, [], ◌∷◌, ◌++◌}
 use Rattle.futures_buffered_table.specs.declared.answer.Taken.{Taken}
 use Rattle.futures_buffered_table.specs.declared.answer.Taken.TheVariants.{Slot, Empty, Pause}
@@ -12,31 +12,30 @@ use Rattle.futures_buffered_table.specs.declared.view.Role.TheVariants.{Polls}
 use Rattle.futures_buffered_table.specs.declared.view.View.{View}
 use Rattle.futures_buffered_table.specs.ReadyList.{AddsSteps, IsInRole, ListIdentity}
 
--- the seat is to read the link of its head, a slot: the head moved there from the stub, or the stub stands behind it
--- now
+-- the seat is to read the link of its head, a slot: the head moved there from the stub, or the stub is after it now
 abbrev pub ReadsSlot : ListIdentity → ℕ → Seat ℕ View → Type 0
 ReadsSlot list head seat = IsInRole list (Polls head Moved) seat ⊎ IsInRole list (Polls head StubLinked) seat
 
--- the link of h names the entry `head`: the slot h is answered, its unmark the last step
+-- the link of `h` points to the entry `head`: the slot `h` is returned, and its unmark is the last step
 abbrev pub IsHanded : ℕ → List AtomicStep → Taken → ℕ → Type 0
 IsHanded h shape answer head = (shape ≡ LinkRead h (suc head) ∷ Unmark h ∷ []) × (answer ≡ Slot h)
 
--- the stub stands behind the slot h, whose link is read again: it names none, or h is answered
+-- the stub is after the slot `h`, whose link is read again: it points to no entry, or `h` is returned
 abbrev pub IsReadAgain : ℕ → List AtomicStep → Taken → ℕ → Type 0
 IsReadAgain h shape answer head =
     ((shape ≡ LinkRead h 0 ∷ []) × (answer ≡ Pause) × (head ≡ h)) ⊎ IsHanded h shape answer head
 
--- h is a slot whose link named none, and another entry is the tail
+-- `h` is a slot whose link pointed to no entry, and the tail is another entry
 abbrev pub IsBeforeTail : ℕ → List AtomicStep → Taken → ℕ → Type 0
 IsBeforeTail h shape answer head = (t : ℕ) × (t ≢ h) × (shape ≡ TailRead t ∷ []) × (answer ≡ Pause) × (head ≡ h)
 
--- h is a slot whose link named none, and the tail: the stub is put in behind it
+-- `h` is a slot whose link pointed to no entry, and is the tail: the stub is enqueued after it
 abbrev pub IsAtTail : ℕ → ℕ → List AtomicStep → Taken → ℕ → Type 0
 IsAtTail n h shape answer head = (p : ℕ) × (rest : List AtomicStep)
     × (shape ≡ TailRead h ∷ LinkClear n ∷ TailSwap n p ∷ LinkWrite p n ∷ rest)
     × IsReadAgain h rest answer head
 
--- h is a slot, and its link named none
+-- `h` is a slot, and its link pointed to no entry
 abbrev pub IsAtLast : ℕ → ℕ → List AtomicStep → Taken → ℕ → Type 0
 IsAtLast n h shape answer head = IsBeforeTail h shape answer head ⊎ IsAtTail n h shape answer head
 
@@ -45,24 +44,24 @@ abbrev pub IsFromSlot : ℕ → ℕ → List AtomicStep → Taken → ℕ → Ty
 IsFromSlot n h shape answer head = IsHanded h shape answer head
     ⊎ ((rest : List AtomicStep) × (shape ≡ LinkRead h 0 ∷ rest) × IsAtLast n h rest answer head)
 
--- the head is the stub, and its link names none: Empty where the tail is the stub too, else Pause
+-- the head is the stub, and its link points to no entry: Empty if the tail is the stub too, otherwise Pause
 abbrev pub IsAtStub : ℕ → List AtomicStep → Taken → ℕ → Type 0
 IsAtStub n shape answer head = (t : ℕ) × (shape ≡ LinkRead n 0 ∷ TailRead t ∷ []) × (head ≡ n)
     × (((t ≡ n) × (answer ≡ Empty)) ⊎ ((t ≢ n) × (answer ≡ Pause)))
 
--- the head is the stub, and moves to the slot that its link names
+-- the head is the stub, and moves to the slot to which its link points
 abbrev pub IsFromStub : ℕ → List AtomicStep → Taken → ℕ → Type 0
 IsFromStub n shape answer head = (q : ℕ) × (rest : List AtomicStep)
     × (shape ≡ LinkRead n (suc q) ∷ rest) × IsFromSlot n q rest answer head
 
--- a whole taking: h is the stub or a slot
+-- a whole dequeue: `h` is the stub or a slot
 abbrev pub IsTaking : ℕ → ℕ → List AtomicStep → Taken → ℕ → Type 0
 IsTaking n h shape answer head = ((h ≡ n) × IsAtStub n shape answer head)
     ⊎ ((h ≡ n) × IsFromStub n shape answer head) ⊎ ((h ≢ n) × IsFromSlot n h shape answer head)
 
--- How a taking of a seat that had made the steps `made` changes what it calls before it can answer Empty: by one call,
--- as `leaves` says, where it takes no slot and its head is the stub, entry n; else not at all. The call comes once the
--- link of the stub is read, and before any other step.
+-- How a dequeue changes what it calls before it can return Empty; the seat had made the steps `made`. If the dequeue
+-- returns no slot and its head is the stub, entry n, there is one call, as `leaves` says. Otherwise there is none. The
+-- call comes after the link of the stub is read, and before any other step.
 abbrev pub CallsAtStub : {B : Type 0} → (List AtomicStep → B → B → Type 0) → ℕ → List AtomicStep
     → Taken → ℕ → B → B → Type 0
 CallsAtStub leaves n made (Slot i) head before after = after ≡ before
@@ -71,12 +70,12 @@ CallsAtStub leaves n made Pause head before after =
     ((head ≡ n) × leaves (made ++ LinkRead n 0 ∷ []) before after)
     ⊎ ((head ≢ n) × (after ≡ before))
 
--- the same of a taking that tells the head after it, and its answer
+-- the same for a dequeue that returns the head after it, and its result
 abbrev pub CallsFrom : {B : Type 0} → (List AtomicStep → B → B → Type 0) → ℕ → List AtomicStep
     → ℕ × Taken → B → B → Type 0
 CallsFrom leaves n made result = CallsAtStub leaves n made result.1 result.0
 
--- What the part of a taking leaves that goes on from the slot at the head; its steps have this shape.
+-- what the part of a dequeue leaves that continues from the slot at the head; its steps have this shape
 pub record TakesFromSlot
     (list : ListIdentity)
     (h : ℕ)
@@ -86,18 +85,18 @@ pub record TakesFromSlot
     (head : ℕ)
     (new : Seat ℕ View)
     : Type 0 where
-  -- the seat is between two takings, and its head is an entry
+  -- the seat is between two dequeues, and its head is an entry
   pub role : IsInRole list (Polls head Start) new × (head ≤ list.capacity)
-  -- the list is not empty
+  -- the dequeue does not return Empty
   pub never : answer ≢ Empty
-  -- at a pause the head stays
+  -- if it returns Pause, the head does not change
   pub stays : answer ≡ Pause → head ≡ h
-  -- a slot that is named is below the capacity
+  -- a slot that it returns is below the capacity
   pub named : (slot : ℕ) → answer ≡ Slot slot → slot < list.capacity
   -- the steps that it made
   pub shape : (shape : List AtomicStep) × AddsSteps old new shape × has_shape list.capacity h shape answer head
 
--- so where the link of the head named none, and where nothing is known of it yet
+-- the part after the link of the head was found to point to no entry; and below, the part before that link is read
 abbrev pub TakesAtLast : ListIdentity → ℕ → Seat ℕ View → ℕ × Taken → Seat ℕ View → Type 0
 TakesAtLast list h old result new = TakesFromSlot list h IsAtLast old result.1 result.0 new
 

@@ -1,11 +1,11 @@
--- The shapes of a wake: which steps it makes, with what was found, for each answer. There is no other shape.
+-- The shapes of a wake: which steps it makes, with what was found, for each result. There is no other shape.
 use Rattle.std.specs.Prelude.{◌≡◌, ℕ, List, [], ◌∷◌}
 use Rattle.futures_buffered_table.specs.declared.answer.Woke.{Woke}
 use Rattle.futures_buffered_table.specs.declared.answer.Woke.TheVariants.{Fresh, Already}
 use Rattle.futures_buffered_table.specs.declared.view.AtomicStep.{AtomicStep}
 use Rattle.futures_buffered_table.specs.declared.view.AtomicStep.TheVariants.{MarkSwap, LinkClear, TailSwap, LinkWrite}
 
--- a wake of the slot i: one step where its mark was set, four where it was clear
+-- a wake of the slot `i`: one step if its mark was set, four if it was clear
 abbrev pub IsWake : ℕ → List AtomicStep → Woke → Type 0
 IsWake i shape Already = shape ≡ MarkSwap i 1 ∷ []
 IsWake i shape Fresh = (p : ℕ) × (shape ≡ MarkSwap i 0 ∷ LinkClear i ∷ TailSwap i p ∷ LinkWrite p i ∷ [])

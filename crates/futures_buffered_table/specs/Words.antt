@@ -1,7 +1,7 @@
 -- The words of a list for n slots: n marks, n + 1 links and the tail.
 use Rattle.std.specs.Prelude.{ℕ, ◌+◌, List, [], ◌∷◌, ◌++◌, replicate, slice_index}
 
--- where the tail word stands
+-- the position of the tail word
 abbrev pub tail_at : ℕ → ℕ
 tail_at n = n + n + 1
 

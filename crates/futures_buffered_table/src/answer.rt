@@ -1,4 +1,4 @@
-//! What a list of ready slots answers, and how many slots it can have.
+//! What a call of a list of ready slots returns, and how many slots a list can have.
 use std::alloc::AllocError;
 use thiserror::Error;
 
@@ -7,19 +7,19 @@ pub const MAX_CAPACITY: usize = usize::MAX / 4;
 
 const _: () = prove!(MAX_CAPACITY == 4611686018427387903);
 
-/// The answer of a taking.
+/// What a dequeue returns.
 #[derive(Clone, Copy, Debug, PartialEq, Eq)]
 pub enum Taken {
-    /// This slot was marked, and the taking cleared that mark.
+    /// This slot was marked, and the dequeue cleared that mark.
     Slot(usize),
-    /// There is no slot to name. Over a list of atomic words one may be marked that its waker has not put in yet.
+    /// There is no enqueued slot. In a list of atomic words, a slot may be marked that its waker has not yet enqueued.
     Empty,
-    /// There may be a slot to name soon: ask again later. A list answers it where it met a mark that was half made, and
-    /// a `ReadyCore` never.
+    /// A slot may be ready soon: dequeue again later. A list returns this if it met a mark that was half made. A
+    /// `ReadyCore` never does.
     Pause,
 }
 
-/// The answer of a mark.
+/// What a mark returns.
 #[derive(Clone, Copy, Debug, PartialEq, Eq)]
 pub enum Woke {
     /// The slot was not marked.
@@ -28,14 +28,14 @@ pub enum Woke {
     Already,
 }
 
-/// Why nothing was made. A constructor whose docs say no more is refused for these two reasons alone.
+/// Why nothing was made. A constructor whose docs say no more fails for these two reasons alone.
 #[derive(Clone, Copy, Debug, PartialEq, Eq, Error)]
 pub enum NewFault {
-    /// A request for memory was refused, or what was asked for could not be made just now, as the call's docs say.
+    /// An allocation failed, or what was asked for could not be made just now, as the call's docs say.
     #[error("out of memory")]
     Memory,
-    /// More slots, items or entries than there can be: more than `MAX_CAPACITY`, where the call's docs name no other
-    /// number. A capacity that is given is tested before any memory is asked for.
+    /// More slots, items or entries than there can be: more than `MAX_CAPACITY`, unless the call's docs say another
+    /// number. A capacity that is given is tested before any allocation.
     #[error("the capacity is too large: at most 4611686018427387903 slots")]
     TooLarge,
 }

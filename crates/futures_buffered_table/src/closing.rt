@@ -12,7 +12,7 @@ use atomic_table::Closed as Words;
 use std::alloc::Global;
 use std::marker::Model;
 
-/// A list that no thread shares any more. [`Closed::free`] gives its memory back.
+/// A list that no thread shares any more. [`Closed::free`] frees its memory.
 pub struct Closed {
     words: Words<u8, Global>,
     capacity: usize,
@@ -32,7 +32,7 @@ impl Model for Closed {
 }
 
 impl PollSeat {
-    // The poll seat with the steps of a wake seat that went into it.
+    // Returns the poll seat with the steps of the wake seat `other`, which goes into it.
     fn join(mut self, list: &ReadyList, other: WakeSeat) -> PollSeat
         requires { (self.list ≡ list.now.list) × (other.list ≡ list.now.list) }
         ensures joined { (result.list ≡ self.list) × (result.head ≡ self.head)
@@ -48,7 +48,7 @@ impl PollSeat {
 }
 
 impl Closed {
-    /// Whether the slot was left marked, in constant time.
+    /// Returns whether the slot was left marked. Constant time.
     pub fn marked(&self, slot: usize) -> bool
         requires { slot < self.now.capacity }
         ensures { IsTrue result ↔ (mark self.now.words slot ≡ 1) }
@@ -56,7 +56,7 @@ impl Closed {
         self.words.word(slot) != 0
     }
 
-    /// Gives the memory of the words back. A closed list that is not given back keeps it.
+    /// Frees the memory of the words. A closed list that is not freed keeps it.
     pub fn free(self) {
         let Closed { words, capacity: _ } = self;
         words.free();
@@ -83,8 +83,9 @@ impl ReadyList {
 
     /// Ends the list: no thread has a `&` to it any more.
     ///
-    /// The wake seats that are handed in are counted with the poll seat; one that was dropped is
-    /// not. Takes time in proportion to their number, an atomic load for each, and no memory.
+    /// The steps of the wake seats in `seats` are counted with the poll seat. The steps of a seat
+    /// that was dropped are not counted. Does not allocate. Takes time in proportion to the number
+    /// of seats, an atomic load for each.
     pub fn close(self, poll: PollSeat, seats: Vec<WakeSeat>) -> Closed
         requires poll { poll.list ≡ self.list }
         requires seats { All (λ s. s.list ≡ self.list) seats.items }
@@ -94,7 +95,7 @@ impl ReadyList {
         ensures placed { (views : List View) × (at : Whereabouts self.capacity result.words views)
             × (at.head ≡ poll.head) }
 
-        // The marks that these seats won were taken, but for one where the slot is still marked.
+        // The marks that these seats won were dequeued, except one if the slot is still marked.
         ensures none_lost { (e : ℕ) → e < self.capacity →
             wins e (steps_of seats.items) ≤ unmarks e poll.steps + mark result.words e }
     {

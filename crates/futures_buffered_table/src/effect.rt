@@ -48,8 +48,8 @@ pub fn puts(n: usize, role: Role, found: u64) -> u64
     }
 }
 
-// The poller's role after a read of its head's link, which named `found`: the phase is `none` where
-// it named none.
+// The poller's role after a read of its head's link, which found `found`. The phase is `none` if
+// the link points to no entry.
 fn after_link(head: usize, none: Phase, found: u64) -> Role
     ensures { result ≡ after_slot_read head none found }
 {
@@ -60,7 +60,7 @@ fn after_link(head: usize, none: Phase, found: u64) -> Role
     }
 }
 
-// What the seat is after the step.
+// The role of the seat after the step.
 pub fn role_after(n: usize, slot: usize, role: Role, found: u64) -> Role
     ensures { result ≡ next_role n slot role found }
 {
@@ -85,7 +85,7 @@ pub fn role_after(n: usize, slot: usize, role: Role, found: u64) -> Role
     }
 }
 
-// What the step answers.
+// What the step returns.
 pub fn reply(n: usize, role: Role, found: u64) -> StepReply
     ensures { result ≡ reply_of_role n role found }
 {

@@ -9,16 +9,16 @@ use crate::step::{Step, StepFault, StepReply};
 use crate::step_machine::StepMachine;
 use std::alloc::Global;
 
-/// Makes the steps in order on a new machine, and answers their replies.
+/// Makes the steps in order on a new machine, and returns their replies.
 ///
-/// Tests the capacity first (`TooLarge`), then asks for all memory (`Memory`), then makes the steps
-/// up to the first that cannot be made (`Step`). Takes time and memory in proportion to the capacity
-/// and the number of steps.
+/// Tests the capacity first (`TooLarge`), and then allocates all that it needs (`Memory`). Then it
+/// makes the steps, up to the first that cannot be made (`Step`). Takes time and allocates in
+/// proportion to the capacity and the number of steps.
 pub fn steps(alloc: Global, capacity: usize, steps: &[Step]) -> Result<Vec<StepReply>, StepFault>
     ensures replies { IfOk result (λ v. Legal capacity (at_start capacity) steps.now
         × (v.items ≡ replies_of capacity (at_start capacity) steps.now)) }
 
-    // The slots come out in the order in which the wakers' tail swaps put them in.
+    // The slots are dequeued in the order in which the wakers' tail swaps enqueued them.
     ensures order { IfOk result (λ v. AfterEach AnswersInOrder [] steps.now v.items) }
     ensures empty { IfOk result (λ v. AfterEach EmptyIsTrue [] steps.now v.items) }
     ensures pause { IfOk result (λ v. AfterEach PauseHasCause [] steps.now v.items) }

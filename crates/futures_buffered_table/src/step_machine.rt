@@ -13,7 +13,7 @@ use crate::words::first_words;
 use std::alloc::{AllocError, Global};
 use std::marker::Model;
 
-/// All words and roles between two steps. [`StepMachine::new`] alone takes memory.
+/// All words and roles between two steps. Only [`StepMachine::new`] allocates.
 #[derive(Drop)]
 pub struct StepMachine {
     capacity: usize,
@@ -34,7 +34,7 @@ impl Model for StepMachine {
         (record { capacity = m.capacity; words = m.words.items; roles = m.roles.items }) };
 }
 
-// The roles of idle wake seats and a poll seat whose head is the stub.
+// The roles of idle wake seats, and of a poll seat whose head is the stub.
 fn first_roles(alloc: Global, capacity: usize) -> Result<Vec<Role>, AllocError>
     ensures { IfOk result (λ v. v.items ≡ replicate WAKE_SEATS Idle ++ Polls capacity Start ∷ []) }
 {
@@ -44,7 +44,7 @@ fn first_roles(alloc: Global, capacity: usize) -> Result<Vec<Role>, AllocError>
     Ok(roles)
 }
 
-// The seat and the slot of a step that can be made.
+// The seat and the slot of a step, if the step can be made.
 fn seat_and_slot(capacity: usize, roles: &[Role], step: Step) -> Option<(usize, usize)>
     requires { length roles.now ≡ WAKE_SEATS + 1 }
     ensures { MatchOption result (CanStep capacity roles.now step → ⊥)
@@ -74,10 +74,10 @@ impl StepMachine {
     ghost use Rattle.futures_buffered_table.specs.StepMachine.{PlacesSlots};
     ghost use Rattle.futures_buffered_table.specs.Answer.{RefusesTooLarge};
 
-    /// A machine for an empty list of so many slots.
+    /// Makes a machine for an empty list of `capacity` slots.
     ///
-    /// Takes time and memory in proportion to the capacity. It is `TooLarge` before any memory is
-    /// asked for, and `Memory` where a request is refused; then nothing is kept.
+    /// Fails with `TooLarge` before any allocation, and with `Memory` if an allocation fails; then
+    /// nothing is kept. Takes time and allocates in proportion to the capacity.
     pub fn new(alloc: Global, capacity: usize) -> Result<StepMachine, NewFault>
         ensures ok { IfOk result (IsNew capacity) }
         ensures refuses { RefusesTooLarge capacity result }
@@ -98,9 +98,10 @@ impl StepMachine {
         })
     }
 
-    /// Makes a step, in constant time, with no lock and no memory.
+    /// Makes a step.
     ///
-    /// None where the step cannot be made: then the machine is as it was.
+    /// Returns `None` if the step cannot be made; then the machine does not change. Takes no lock
+    /// and does not allocate. Constant time.
     pub fn step(&mut self, step: Step) -> Option<StepReply>
         ensures refused { IfNone result ((CanMake self.old step → ⊥) × (self.new ≡ self.old)) }
         ensures made { IfSome result (λ reply. CanMake self.old step

@@ -1,4 +1,4 @@
-//! A taking: the steps of the poll seat, from its head.
+//! A dequeue: the steps of the poll seat, from its head.
 ghost use Rattle.std.specs.Prelude.{◌≡◌, ◌≢◌, ℕ, ◌+◌, ◌<◌, ◌≤◌, List, [], ◌∷◌, ◌++◌};
 ghost use Rattle.futures_buffered_table.specs.declared.answer.Taken.TheVariants.{Empty, Pause, Slot};
 ghost use Rattle.futures_buffered_table.specs.declared.view.AtomicStep.{AtomicStep};
@@ -23,9 +23,10 @@ use crate::view::View;
 use atomic_table::Seat;
 use std::marker::Model;
 
-/// What the poll seat has done when a taking calls [`BeforeEmpty::before_empty`]. There is nothing to call on it.
+/// What the poll seat has done when a dequeue calls [`BeforeEmpty::before_empty`]. The type has no
+/// calls.
 ///
-/// A contract sees the steps that the seat has made, from its first taking on.
+/// A contract sees the steps that the seat has made, from its first dequeue on.
 #[derive(Drop)]
 pub struct StepsMade<'s> {
     seat: &'s Seat<u8, View>,
@@ -39,18 +40,19 @@ impl<'s> Model for StepsMade<'s> {
     ghost view = { λ s. record { steps = s.seat.now.me.0.steps } };
 }
 
-/// What a taking calls before the one read that can make its answer Empty: the read of the tail,
-/// where the head is the stub and its link names none.
+/// What a dequeue calls before the one read that can make it return Empty. This is the read of the
+/// tail, if the head is the stub and its link points to no entry.
 ///
-/// A wake whose slot is not yet taken, and whose tail swap comes before that read, makes the answer
-/// Pause. One whose tail swap comes after it finds what the call left, if it was left under a lock
-/// or by a sequentially consistent step, and is looked for after the wake.
+/// If a wake swaps its slot into the tail before that read, and the slot is not yet dequeued, the
+/// dequeue returns Pause. If a wake swaps its slot into the tail after that read, it finds what the
+/// call left. For that, the call has to leave it under a lock or by a sequentially consistent step.
+/// The wake has to look for it after its own steps.
 pub trait BeforeEmpty {
-    // What a call leaves, of what it found, where the seat has made these steps. It says nothing unless an `impl`
-    // writes it.
+    // How a call changes what it found, if the seat has made these steps. It says nothing unless an
+    // `impl` writes it.
     ghost leaves: { List AtomicStep → Self → Self → Type 0 } = { λ _ _ _. Unit {0} };
 
-    /// Returns before the tail is read. Its time, memory and locks are the taking's too.
+    /// Returns before the tail is read. Its time, allocations and locks are the dequeue's too.
     fn before_empty(&mut self, made: &StepsMade<'_>)
         ensures { leaves made.now.steps self.old self.new };
 }
@@ -63,7 +65,7 @@ impl BeforeEmpty for () {
 impl ReadyList {
     ghost use Rattle.futures_buffered_table.specs.ReadyList.{IsInRole, AddsSteps};
 
-    // Reads the link of the head, as a taking begins.
+    // Reads the link of the head, as a dequeue begins.
     fn read_first(&self, seat: &mut Seat<u8, View>, head: usize) -> usize
         requires role { IsInRole self.now (Polls head Start) seat.old
             × (head ≤ self.now.capacity) }
@@ -78,7 +80,7 @@ impl ReadyList {
             .load::<SeatStep>(seat, self.capacity + head) as usize
     }
 
-    // Reads the tail, where the head is a slot whose link named none.
+    // Reads the tail, if the head is a slot whose link pointed to no entry.
     fn read_tail(&self, seat: &mut Seat<u8, View>, head: usize) -> usize
         requires role { IsInRole self.now (Polls head NoNext) seat.old }
         ensures role { IsInRole self.now
@@ -101,7 +103,7 @@ impl ReadyList {
             .store::<SeatStep>(seat, self.capacity + self.capacity, 0);
     }
 
-    // Puts the stub into the tail word, and answers the entry that stood there.
+    // Swaps the stub into the tail word, and returns the entry that was there.
     fn swap_stub(&self, seat: &mut Seat<u8, View>, head: usize) -> usize
         requires role { IsInRole self.now (Polls head StubCleared) seat.old }
         ensures low { result ≤ self.now.capacity }
@@ -115,7 +117,7 @@ impl ReadyList {
         ) as usize
     }
 
-    // Lets the entry before the stub name it.
+    // Writes the link of the entry before the stub: it then points to the stub.
     fn link_stub(&self, seat: &mut Seat<u8, View>, head: usize, before: usize)
         requires role { IsInRole self.now (Polls head (StubPut before)) seat.old
             × (before ≤ self.now.capacity) }
@@ -127,7 +129,8 @@ impl ReadyList {
             .store::<SeatStep>(seat, self.capacity + before, self.capacity as u64 + 1);
     }
 
-    // Reads the link of the head, a slot: it moved there from the stub, or the stub stands behind it now.
+    // Reads the link of the head, a slot: the head moved there from the stub, or the stub is after
+    // it now.
     fn read_slot(&self, seat: &mut Seat<u8, View>, head: usize) -> usize
         requires role { ReadsSlot self.now head seat.old × (head ≤ self.now.capacity) }
         ensures low { result ≤ self.now.capacity + 1 }
@@ -140,7 +143,7 @@ impl ReadyList {
             .load::<SeatStep>(seat, self.capacity + head) as usize
     }
 
-    // Reads the tail, where the head is the stub, whose link named none.
+    // Reads the tail, if the head is the stub, whose link pointed to no entry.
     fn read_tail_first(&self, seat: &mut Seat<u8, View>, head: usize) -> usize
         requires role { IsInRole self.now (Polls head AtStub) seat.old }
         ensures role { IsInRole self.now (Polls head Start) seat.new }
@@ -161,7 +164,7 @@ impl ReadyList {
         self.table.shared.store::<SeatStep>(seat, slot, 0);
     }
 
-    // Goes on with a taking whose head is a slot whose link named none.
+    // Continues a dequeue whose head is a slot whose link pointed to no entry.
     fn take_last(&self, seat: &mut Seat<u8, View>, head: usize) -> (usize, Taken)
         requires role { IsInRole self.now (Polls head NoNext) seat.old
             × (head < self.now.capacity) }
@@ -181,7 +184,7 @@ impl ReadyList {
         (next - 1, Taken::Slot(head))
     }
 
-    // Goes on with a taking whose head moved from the stub to this slot.
+    // Continues a dequeue whose head moved from the stub to this slot.
     fn take_slot(&self, seat: &mut Seat<u8, View>, head: usize) -> (usize, Taken)
         requires role { IsInRole self.now (Polls head Moved) seat.old
             × (head < self.now.capacity) }
@@ -195,7 +198,7 @@ impl ReadyList {
         (found - 1, Taken::Slot(head))
     }
 
-    // Makes a taking from this head, and answers the head after it and its answer.
+    // Dequeues from this head. Returns the head after it, and what the dequeue returns.
     #[inline(always)]
     fn take_from<B: BeforeEmpty>(
         &self,
@@ -216,8 +219,8 @@ impl ReadyList {
         let found = self.read_first(seat, head);
         if head == self.capacity {
             if found == 0 {
-                // A wake that swaps the tail before the next read makes the answer Pause. One that
-                // swaps it later finds what this call leaves.
+                // If a wake swaps the tail before the next read, the dequeue returns Pause. If a
+                // wake swaps it later, it finds what this call leaves.
                 before.before_empty(&StepsMade { seat });
                 let tail = self.read_tail_first(seat, head);
                 if tail == self.capacity {
@@ -234,11 +237,10 @@ impl ReadyList {
         (found - 1, Taken::Slot(head))
     }
 
-    /// Takes the slot that stands first, in two to eight atomic steps, none of them tried again,
-    /// with no lock and no memory.
+    /// Dequeues the first slot, in two to eight atomic steps, none of which is tried again.
     ///
-    /// Empty says that its tail read found the stub, where the row held no slot. Pause says that
-    /// some waker may stand between its tail swap and its link write.
+    /// Empty says that its tail read found the stub, when the row had no slot. Pause says that some
+    /// waker may be between its tail swap and its link write. Takes no lock and does not allocate.
     pub fn take(&self, seat: &mut PollSeat) -> Taken
         requires { seat.old.list ≡ self.now.list }
         ensures list { seat.new.list ≡ seat.old.list }
@@ -249,11 +251,12 @@ impl ReadyList {
         self.take_with(seat, &mut ())
     }
 
-    /// Takes as [`take`](ReadyList::take) does, and calls `before` where the head is the stub and
-    /// its link names none: after that link read and before the tail read.
+    /// Dequeues as [`take`](ReadyList::take) does. Calls `before` if the head is the stub and its
+    /// link points to no entry, after that link read and before the tail read.
     ///
-    /// So it is called once where the answer is Empty, once where it is Pause with the stub as head,
-    /// and nowhere else. The taking itself has no lock and no memory.
+    /// So it calls `before` once if it returns Empty, and once if it returns Pause with the stub as
+    /// head. Otherwise it does not call `before`. The dequeue itself takes no lock and does not
+    /// allocate.
     #[inline(always)]
     pub fn take_with<B: BeforeEmpty>(&self, seat: &mut PollSeat, before: &mut B) -> Taken
         requires { seat.old.list ≡ self.now.list }

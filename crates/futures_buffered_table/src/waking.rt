@@ -16,7 +16,7 @@ use atomic_table::Seat;
 impl ReadyList {
     ghost use Rattle.futures_buffered_table.specs.ReadyList.{IsInRole, AddsSteps, PutsInRow};
 
-    // Sets the slot's mark, and answers what it was.
+    // Sets the slot's mark, and returns what it was.
     fn swap_mark(&self, seat: &mut Seat<u8, View>, slot: usize) -> u64
         requires role { IsInRole self.now Idle seat.old × (slot < self.now.capacity) }
         ensures low { result ≤ 1 }
@@ -37,7 +37,7 @@ impl ReadyList {
             .store::<SeatStep>(seat, self.capacity + slot, 0);
     }
 
-    // Puts the slot into the tail word, and answers the entry that stood there.
+    // Swaps the slot into the tail word, and returns the entry that was there.
     fn swap_tail(&self, seat: &mut Seat<u8, View>, slot: usize) -> usize
         requires role { IsInRole self.now (Cleared slot) seat.old × (slot < self.now.capacity) }
         ensures low { result ≤ self.now.capacity }
@@ -49,7 +49,7 @@ impl ReadyList {
             .swap::<SeatStep>(seat, self.capacity + self.capacity + 1, slot as u64) as usize
     }
 
-    // Lets the entry before the slot name it.
+    // Writes the link of the entry before the slot: it then points to the slot.
     fn write_link(&self, seat: &mut Seat<u8, View>, slot: usize, before: usize)
         requires role { IsInRole self.now (Swapped slot before) seat.old
             × (slot < self.now.capacity) × (before ≤ self.now.capacity) }
@@ -61,7 +61,7 @@ impl ReadyList {
             .store::<SeatStep>(seat, self.capacity + before, slot as u64 + 1);
     }
 
-    // Puts the slot, which this seat won, into the row as its last entry.
+    // Enqueues the slot, which this seat won: it is then the last entry of the row.
     fn put_in(&self, seat: &mut Seat<u8, View>, slot: usize)
         requires role { IsInRole self.now (Won slot) seat.old × (slot < self.now.capacity) }
         ensures role { IsInRole self.now Idle seat.new }
@@ -72,8 +72,8 @@ impl ReadyList {
         self.write_link(seat, slot, before);
     }
 
-    /// Marks the slot, and puts it in if it was not marked: one atomic step or four, none of them
-    /// tried again, with no lock and no memory.
+    /// Marks the slot, and enqueues it if it was not marked: one atomic step or four, none of which
+    /// is tried again. Takes no lock and does not allocate.
     pub fn wake(&self, seat: &mut WakeSeat, slot: usize) -> Woke
         requires list { seat.old.list ≡ self.now.list }
         requires slot { slot < self.now.capacity }
@@ -90,7 +90,7 @@ impl ReadyList {
         Woke::Fresh
     }
 
-    // Sets the slot's mark by a seat that is made with this step, and answers what the mark was.
+    // Sets the slot's mark by a seat that is made with this step, and returns what the mark was.
     fn swap_mark_anew(&self, slot: usize) -> (u64, Seat<u8, View>)
         requires { slot < self.now.capacity }
         ensures low { result.0 ≤ 1 }
@@ -103,8 +103,8 @@ impl ReadyList {
     /// Wakes the slot as [`wake`](ReadyList::wake) does, by a wake seat that is made with the first
     /// step and then is the caller's. So a thread that has no seat can wake.
     ///
-    /// The seat takes no bytes and its making no step: one atomic step or four in all, none of them
-    /// tried again, with no lock and no memory.
+    /// The seat takes no bytes, and making it is no step: one atomic step or four in all, none of
+    /// which is tried again. Takes no lock and does not allocate.
     pub fn wake_anew(&self, slot: usize) -> (Woke, WakeSeat)
         requires { slot < self.now.capacity }
         ensures list { result.1.list ≡ self.now.list }
