@@ -95,7 +95,7 @@ pub trait ReadySource: Drop {
     ghost laws: { SourceLaws marks steps needs slots };
 }
 
-/// A source that a set can make for itself, and to which it can add others beside it.
+/// A source that a set can make for itself, and to which it can add siblings.
 pub trait NewSource: ReadySource {
     /// What making one needs besides memory.
     type Env: Drop;
@@ -104,7 +104,7 @@ pub trait NewSource: ReadySource {
     ghost made: { ℕ → Self → Type 0 };
 
     /// A source of `cap` slots. Takes time and memory in proportion to `cap`, so that no later mark or
-    /// taking allocates.
+    /// dequeue allocates.
     fn make(env: &Self::Env, alloc: Global, cap: usize) -> Result<Self, NewFault>
         ensures { MakesSlots cap (made cap) result };
 
@@ -121,11 +121,11 @@ pub trait NewSource: ReadySource {
         Ok(source)
     }
 
-    /// A source of `cap` slots beside this one, which waits at the same places of a task's wakes. So in one poll that
-    /// asks both, one registration covers both, where the source that registers is asked first.
+    /// A sibling: a source of `cap` slots that waits at the same places of a task's wakes as this one. So if one poll
+    /// polls both, one registration covers both, if the source that registers is polled first.
     ///
-    /// Takes time and memory as `make` does. Where it is refused this source's content stays as it was; the task's
-    /// waker may be kept at another place from then on.
+    /// Takes time and memory as `make` does. If it fails, the content of this source does not change; the task's waker
+    /// may be kept at another place from then on.
     fn make_sibling(&mut self, alloc: Global, cap: usize) -> Result<Self, NewFault>
         ensures source { MakesSlots cap (made cap) result }
         ensures beside { IfOk result (WaitsAlike Self.needs self.old) }
@@ -134,6 +134,6 @@ pub trait NewSource: ReadySource {
     // A new source has the capacity that was asked for.
     ghost made_slots: { (cap : ℕ) (new : Self) → made cap new → Self.slots new ≡ cap };
 
-    // It waits at the same places for good, so sources that stand beside one another stay so.
+    // It waits at the same places permanently, so siblings stay siblings.
     ghost waits: { WaitsForGood Self.marks Self.steps Self.needs };
 }

@@ -41,7 +41,7 @@ abbrev pub errand_with : {O : Type 0} → Option O → Errand
 errand_with None = Rests
 errand_with (Some x) = Wakes
 
--- a poller that put its waker in asks the list; one that met another call wakes its waker next
+-- a poller that put its waker in polls the list; one that met another call wakes its waker next
 abbrev pub turn_with : {O : Type 0} → Answer O → Turn
 turn_with (Kept before) = Asks
 turn_with (Busy same) = Met

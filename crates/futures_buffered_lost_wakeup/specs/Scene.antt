@@ -22,7 +22,7 @@ use Rattle.futures_buffered_lost_wakeup.specs.Agents.{sibling_after, turn_after,
 
 -- Who takes part.
 
--- who has the place
+-- which agent has the place
 pub data Holder : Type 0 where
   -- the wake of this seat
   AWake : ℕ → Holder
@@ -68,7 +68,7 @@ pub record Scene : Type 0 where
   -- whether the task was asked to poll again
   pub woken : Bool
 
--- at first the list is empty, nobody is at the place, and the task is about to poll
+-- at first the list is empty, no agent is at the place, and the task is about to poll
 abbrev pub first : ℕ → Scene
 first n = record {
   list = at_start n;
@@ -144,7 +144,7 @@ stage_after holder Leave stage = Vacant
 abbrev pub poller_role : Scene → Role
 poller_role s = (view_at s.list Poll).role
 
--- the poller is between two takings
+-- the poller is between two dequeues
 abbrev pub IsAtStart : Role → Type 0
 IsAtStart (Polls head Start) = Unit {0}
 IsAtStart _ = ⊥
@@ -171,7 +171,7 @@ MayStep s (Mark seat slot) = IsBetween s seat
 MayStep s (Go seat) = IsBetween s seat
 MayStep s Poll = (s.turn ≡ Asks) × (IsAtStub (poller_role s) → s.own ≡ false)
 
--- a poller that asks goes to the place only if it has the task's waker
+-- a poller that dequeues goes to the place only if it has the task's waker
 abbrev pub HasOne : Scene → Type 0
 HasOne s = s.turn ≡ Asks → s.own ≡ true
 

@@ -42,7 +42,7 @@ abbrev pub taken_by : Hand → ℕ
 taken_by Taken = 1
 taken_by _ = 0
 
--- what the place is between two steps: it keeps nothing; the only poller has the slot, and the word says so to nobody;
+-- what the place is between two steps: it keeps nothing; the only poller has the slot, and the word does not say so;
 -- it keeps a value; a seat has the slot, and the word says so
 pub data Stage (O : Type 0) : Type 0 where
   vacant : Stage O
@@ -99,7 +99,7 @@ module _ {O : Type 0} where
         → total (λ (v : View O). beside_by v.right) views ≡ 0
     -- no other seat has the slot unseen
     pub by_alone : (j : ℕ) (v : View O) → get_elem? views j ≡ some v → filling_by v.hand ≤ alone_by v.right
-    -- a seat has the slot exactly where the stage says so
+    -- a seat has the slot exactly if the stage says so
     pub filled : total (λ (v : View O). filling_by v.hand) views ≡ filling_count stage
     pub lends : total (λ (v : View O). taken_by v.hand) views ≡ lent_count stage
     -- what was put in is what was taken out and what is kept, however the values are weighed
@@ -117,11 +117,11 @@ module _ {O : Type 0} where
   abbrev pub first_poller : View O
   first_poller = record { right = Alone; hand = Nothing; steps = [] }
 
-  -- the seat's next view, behind this step: what it has in hand then
+  -- the next view of the seat, after this step: what it has in hand then
   abbrev pub does : ℕ → View O → Hand → Deed O → View O
   does made v hand deed = record { right = v.right; hand = hand; steps = then_did made v.steps deed }
 
-  -- so behind these steps, with nothing in hand
+  -- its view after these steps, with nothing in hand
   abbrev pub done : ℕ → View O → List (Deed O) → View O
   done made v deeds = record { right = v.right; hand = Nothing; steps = after_deeds made v.steps deeds }
 
@@ -184,7 +184,7 @@ module _ {O : Type 0} where
   abbrev pub Goes : Seat (Option O) (View O) → Me (Option O) (View O) → Seat (Option O) (View O) → Type 0
   Goes old me new = (new.table_id ≡ old.table_id) × (new.me ≡ me)
 
-  -- where it was not put in, the value comes back
+  -- if it was not put in, the value is returned
   abbrev pub PutsBy : Bool → ℕ → O → View O → Answer O → View O → Type 0
   PutsBy alone made x v answer w = (shape : List (Deed O)) × IsPutIn alone x shape answer × (w ≡ done made v shape)
 

@@ -10,12 +10,12 @@ use Rattle.futures_buffered_table.specs.declared.view.View.{View}
 use Rattle.futures_buffered_table.specs.View.{first_poller}
 use Rattle.futures_buffered_table.specs.Words.{empty_words, tail_at}
 
--- the entry behind which slot k comes, where the slots are woken in order: the stub, or the slot before it
+-- the entry before slot k if the slots are woken in order: the stub, or the slot before it
 abbrev pub entry_before : ℕ → ℕ → ℕ
 entry_before n zero = n
 entry_before n (suc k) = k
 
--- the steps of the wake of slot k, where the slots are woken in order
+-- the steps of the wake of slot k if the slots are woken in order
 abbrev pub wake_in_order : ℕ → ℕ → List AtomicStep
 wake_in_order n k = MarkSwap k 0 ∷ LinkClear k ∷ TailSwap k (entry_before n k) ∷ LinkWrite (entry_before n k) k ∷ []
 

@@ -13,7 +13,7 @@ role_of v = v.role
 abbrev pub first_poller : ℕ → View
 first_poller n = record { stub = n; role = Polls n Start; steps = [] }
 
--- a new wake seat's, beside another seat of its list
+-- the view of a new wake seat, split from another seat of its list
 abbrev pub new_waker_beside : View → View
 new_waker_beside v = record { stub = v.stub; role = Idle; steps = [] }
 
@@ -25,7 +25,7 @@ first_views count n = replicate count (new_waker_beside (first_poller n)) ++ fir
 abbrev pub without_steps : View → View
 without_steps v = record { stub = v.stub; role = v.role; steps = [] }
 
--- a new wake seat's, beside another seat of its list, which has the steps of that seat
+-- the view of a new wake seat, split from another seat of its list, with the steps of that seat
 abbrev pub waker_with_steps_of : View → View
 waker_with_steps_of v = record { stub = v.stub; role = Idle; steps = v.steps }
 

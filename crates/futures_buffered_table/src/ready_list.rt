@@ -84,8 +84,8 @@ impl ReadyList {
     /// A list for this many slots, none of them marked, with its poll seat and a first wake seat.
     ///
     /// Takes time and memory in proportion to the capacity: for a while twice the words that stay.
-    /// It is `TooLarge` before any memory is asked for, and `Memory` where a request is refused;
-    /// then nothing is kept.
+    /// It is `TooLarge` before any allocation, and `Memory` if an allocation fails; then nothing
+    /// is kept.
     pub fn new(alloc: Global, capacity: usize) -> Result<(ReadyList, PollSeat, WakeSeat), NewFault>
         ensures list { IfOk result (λ r. r.0.capacity ≡ capacity) }
         ensures poller { IfOk result

@@ -1,4 +1,4 @@
-//! The rule of the table that the list's words lie in, and what a step, a split and a join make of
+//! The rule of the table that has the words of the list, and what a step, a split and a join make of
 //! the views of their seats.
 use crate::view::View;
 use atomic_table::{Join, Play, Split, TableRule};
@@ -40,7 +40,7 @@ impl Play<u8, View> for NewWakerStep {
     ghost then = { PlaysNewWaker };
 }
 
-/// A new wake seat beside another seat.
+/// A new wake seat, split from another seat.
 pub struct NewWaker;
 
 impl Split<View> for NewWaker {

@@ -6,8 +6,7 @@ ghost use Rattle.futures_buffered_table.specs.Words.{empty_words};
 use crate::rule::ListKey;
 use std::alloc::{AllocError, Global};
 
-// The words of an empty list: no mark, no link, and the stub as the tail. It asks for as many as
-// there are.
+// The words of an empty list: no mark, no link, and the stub as the tail. Allocates once.
 pub fn first_words(alloc: Global, capacity: usize) -> Result<Vec<u64>, AllocError>
     requires { capacity < 2 ^ 62 }
     ensures { IfOk result (λ words. words.items ≡ empty_words capacity) }
