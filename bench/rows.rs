@@ -11,7 +11,7 @@ use crate::items::{Items, Sent};
 use crate::flights::{FlightJoin, FlightQueue, Flights, KitJoin, flight_queue, flights};
 use crate::one_shots::OneShots;
 use crate::report::{RUNS, Report};
-use crate::sources::{FourWakers, Listed, TaskAlone};
+use crate::sources::{Listed, ManyWakers, TaskAlone};
 use crate::waiting::{Kept, Woken};
 use futures::StreamExt;
 use futures::channel::{mpsc, oneshot as kit};
@@ -247,15 +247,20 @@ impl<R: Clock + RandomSource + AllocGlobal, O: io::Write> Report<'_, R, O> {
 
 // The rows of several threads, and of `block_on`.
 impl<R: Clock + RandomSource + AllocGlobal + Threads + Wait + Sync, O: io::Write> Report<'_, R, O> {
-    // Four wakers beside one poller.
-    fn taking(&mut self, slots: usize) -> io::Result<()> {
+    // Two or four wakers beside one poller.
+    fn taking(&mut self, slots: usize, are_four: bool) -> io::Result<()> {
         let alloc = self.rt.alloc();
-        let mut beside = FourWakers::new(alloc, slots).map_err(|_fault| AllocError)?;
+        let mut beside = ManyWakers::new(alloc, slots, are_four).map_err(|_fault| AllocError)?;
         let mut least = u128::MAX;
         for _ in 0..RUNS {
             least = least.min(beside.run(self.rt)?);
         }
-        self.line("source", "a taking beside four wakers, slots", slots, least)
+        let name = if are_four {
+            "a taking beside four wakers, slots"
+        } else {
+            "a taking beside two wakers, slots"
+        };
+        self.line("source", name, slots, least)
     }
 
     fn blocking(&mut self) -> io::Result<()> {
@@ -293,7 +298,8 @@ impl<R: Clock + RandomSource + AllocGlobal + Threads + Wait + Sync, O: io::Write
         self.small()?;
         self.whole()?;
         for slots in [16, 256, 4_096] {
-            self.taking(slots)?;
+            self.taking(slots, false)?;
+            self.taking(slots, true)?;
         }
         self.blocking()
     }

@@ -117,27 +117,44 @@ fn four<T: Threads + Sync>(rt: &T, wakers: &[SharedWaker<Nobody>]) {
     thread::join(rt, || two(rt, wakers), || two(rt, wakers));
 }
 
-/// Four threads wake the slots one after another, while this one takes as often as each of them wakes.
+/// Two or four threads wake the slots one after another, while this one takes as often as each of them wakes.
 #[derive(Drop)]
-pub struct FourWakers {
+pub struct ManyWakers {
     source: Source,
     wakers: Vec<SharedWaker<Nobody>>,
+    are_four: bool,
 }
 
-impl FourWakers {
-    pub fn new(alloc: Global, slots: usize) -> Result<FourWakers, NewFault> {
+impl ManyWakers {
+    pub fn new(alloc: Global, slots: usize, are_four: bool) -> Result<ManyWakers, NewFault> {
         let mut source = Source::new(alloc, slots)?;
         let mut wakers = Vec::new(alloc);
         add_wakers(&mut wakers, &mut source)?;
-        Ok(FourWakers { source, wakers })
+        Ok(ManyWakers {
+            source,
+            wakers,
+            are_four,
+        })
+    }
+
+    fn wake<R: Threads + Sync>(rt: &R, wakers: &[SharedWaker<Nobody>], are_four: bool) {
+        if are_four {
+            four(rt, wakers);
+        } else {
+            two(rt, wakers);
+        }
     }
 
     /// The time of one taking, in tenths of a nanosecond.
     pub fn run<R: Clock + Threads + Sync>(&mut self, rt: &R) -> io::Result<u128> {
-        let (source, wakers) = (&mut self.source, self.wakers.as_slice());
+        let (source, wakers, are_four) = (&mut self.source, self.wakers.as_slice(), self.are_four);
         let takings = (source.capacity() as u64).saturating_mul(ROUNDS);
         let start = Instant::now(rt)?;
-        thread::join(rt, || four(rt, wakers), || take_often(source, takings));
+        thread::join(
+            rt,
+            || Self::wake(rt, wakers, are_four),
+            || take_often(source, takings),
+        );
         Ok(tenths(start.elapsed(rt)?, takings))
     }
 }
