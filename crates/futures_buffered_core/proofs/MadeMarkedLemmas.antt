@@ -1,13 +1,22 @@
--- A list that begins full makes a source as marks of all its slots leave it.
-use Rattle.std.proofs.Common.{◌≡◌, ℕ, zero, suc, ◌+◌, List, [], refl, sym, ap, ◌∙◌, subst, arith}
+-- Marks of slots in order: they keep the number of slots, and a list that begins full makes a source as marks of all its
+-- slots leave it.
+use Rattle.std.proofs.Common.{◌≡◌, ℕ, zero, suc, ◌+◌, List, [], ◌∷◌, refl, sym, ap, ◌∙◌, subst, arith}
 use Rattle.std.specs.List.{range_with_len}
 use Rattle.std.proofs.lemmas.Fn.{FoldsTo-push}
 use Rattle.futures_buffered_table.specs.Beginning.{all_wakes, entry_before, wake_in_order, wakes_in_order}
+use Rattle.futures_buffered_table.specs.declared.answer.Woke.{Woke}
 use Rattle.futures_buffered_table.specs.declared.answer.Woke.TheVariants.{Fresh}
 use Rattle.futures_buffered_table.specs.declared.view.AtomicStep.{AtomicStep}
 use Rattle.futures_buffered_core.proofs.RangeLemmas.{range_push}
 use Rattle.futures_buffered_core.specs.ReadyShared.{IsNewShared, MarksShared, Shared}
-use Rattle.futures_buffered_core.specs.ReadySource.{IsMadeMarked, MarksEach, MarksSlot}
+use Rattle.futures_buffered_core.specs.ReadySource.{IsMadeMarked, MarksEach, MarksSlot, SourceLaws, SourceSteps}
+
+-- marks of any slots keep the number of slots
+pub marked_slots : {S : Type 0} (marks : S → ℕ → Woke → S → Type 0) (steps : SourceSteps S) (needs : S → ℕ → Type 0) (slots : S → ℕ)
+    → SourceLaws marks steps needs slots → (names : List ℕ) (old new : S) → MarksEach marks old names new → slots new ≡ slots old
+marked_slots marks steps needs slots laws [] old new same = ap slots (sym same)
+marked_slots marks steps needs slots laws (i ∷ names) old new h =
+    marked_slots marks steps needs slots laws names h.0 new h.2 ∙ laws.mark_keeps old i h.1.0 h.0 h.1.1
 
 -- of a source whose marks made no step, with the steps of wakes of its first k slots
 pub marks_in_order : (new : Shared) (n k : ℕ) → new.marked ≡ []

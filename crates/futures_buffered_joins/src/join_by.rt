@@ -81,22 +81,26 @@ where
         ensures { PollsJoin Q.waiting Q.PlacedPolls R.JoinRule
             self.old result self.new cx.old cx.new }
     {
-        let Some(mut places) = self.places.take() else {
-            return Poll::Ready(R::answer(Ok(Vec::new(self.alloc))));
-        };
-        'places: while places.set.waiting_len() > 0 {
+        'places: while let Some(places) = &mut self.places {
+            if places.set.waiting_len() == 0 {
+                break;
+            }
             match places.set.poll_placed(cx) {
                 Poll::Ready((place, output)) => match R::keep(output) {
                     Ok(kept) => places.outputs.put(place, kept),
-                    Err(error) => return Poll::Ready(R::answer(Err(error))),
+                    Err(error) => {
+                        self.places = None;
+                        return Poll::Ready(R::answer(Err(error)));
+                    }
                 },
-                Poll::Pending => {
-                    self.places = Some(places);
-                    return Poll::Pending;
-                }
+                Poll::Pending => return Poll::Pending,
             }
         }
-        Poll::Ready(R::answer(Ok(places.outputs.gather())))
+        let outputs = match self.places.take() {
+            Some(places) => places.outputs.gather(),
+            None => Vec::new(self.alloc),
+        };
+        Poll::Ready(R::answer(Ok(outputs)))
     }
 }
 

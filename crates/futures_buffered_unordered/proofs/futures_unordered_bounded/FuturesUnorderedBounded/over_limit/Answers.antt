@@ -1,7 +1,14 @@
 use Rattle.std.proofs.Common.{◌≡◌, Some, length, refl, ap, ◌∙◌, rules}
 use Rattle.std.proofs.lemmas.List.{length-map}
 use Rattle.futures_buffered_core.specs.SlotMap.{slot_count}
+use Rattle.futures_buffered_core.proofs.MadeMarkedLemmas.{marked_slots}
 use Rattle.futures_buffered_unordered.proofs.futures_unordered_bounded.FuturesUnorderedBounded.over_limit.Goals as goal
+
+pub invariant_of-result : goal.invariant_of-result
+invariant_of-result g c =
+    let source = c.in_ok-source.ensures.made in
+    let same_size = marked_slots g.S.ReadySource.marks _ _ _ g.met.S.ReadySource.laws _ _ _ source.marked in
+    (same_size ∙ (g.met.S.NewSource.made_slots _ _ source.was_made ∙ c.capacity.ensures), c.requires.some)
 
 pub returns : goal.returns
 returns g c =
