@@ -1,9 +1,12 @@
-"""What several scripts read of this repository: the crates that its crates.txt lists, and the clauses of its sources.
+"""What several scripts have in common: what they read of this repository, the crates that its crates.txt lists and the clauses of its
+sources; and how a program is laid out next to a copy of the libraries.
 
     python3 scripts/repository.py     prints the crates, one in each line
 """
 import pathlib
 import re
+import shutil
+import subprocess
 
 ROOT = pathlib.Path(__file__).resolve().parent.parent
 
@@ -51,6 +54,23 @@ def clauses_in(text):
     text = re.sub(r"//[^\n]*", "", text)
     for found in re.finditer(r"\b(requires|ensures|ghost)\b", text):
         yield " ".join(text[found.start() : end_of_clause(text, found.start())].split())
+
+
+def run(words, folder=None):
+    """Runs a command without input, and returns how it ended and what it said."""
+    words = [str(word) for word in words]
+    return subprocess.run(words, cwd=folder, stdin=subprocess.DEVNULL, capture_output=True, text=True, errors="replace")
+
+
+def add_crate(room, name, uses, sources):
+    """Adds a crate to another repository: its line of crates.txt, and its sources, each as a module. Returns its folder."""
+    with open(room / "crates.txt", "a", encoding="utf-8") as lines:
+        lines.write(f"{name}: {uses}\n")
+    folder = room / "crates" / name
+    (folder / "src").mkdir(parents=True)
+    for source in sources:
+        shutil.copy(source, folder / "src" / f"{source.stem}.rt")
+    return folder
 
 
 if __name__ == "__main__":

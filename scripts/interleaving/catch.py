@@ -7,9 +7,9 @@ build, but for the orders that clang may give to the plain instructions between 
 import dataclasses
 import pathlib
 import shutil
-import subprocess
 
 from instrument import instrument, table_of
+from repository import run
 
 HERE = pathlib.Path(__file__).resolve().parent
 MODULE = "module.bc"
@@ -21,11 +21,6 @@ COMPILER = ["cc", "-O2", "-Wall", "-Wextra", "-fno-omit-frame-pointer"]
 
 class NotCaught(Exception):
     """There is no program to explore."""
-
-
-def run(words, folder=None, **how):
-    words = [str(word) for word in words]
-    return subprocess.run(words, cwd=folder, stdin=subprocess.DEVNULL, capture_output=True, text=True, errors="replace", **how)
 
 
 def must_run(words, folder=None):
