@@ -1,7 +1,7 @@
 //! A future that may fail.
 use futures::task::Poll;
 use futures_buffered_core::ready_source::SlotWaker;
-use futures_buffered_sets::slot_future::SlotFuture;
+use futures_buffered_unordered::slot_future::SlotFuture;
 
 /// Pending `polls_left` times, each time waking itself, then ready with `result`.
 #[derive(Clone, Copy, Debug, PartialEq, Eq)]

@@ -2,7 +2,7 @@
 use crate::counter::{Counter, new_counter};
 use futures::test::MockTask;
 use futures_buffered_core::ready_shared::SharedReady;
-use futures_buffered_sets::FuturesUnorderedBounded;
+use futures_buffered_unordered::FuturesUnorderedBounded;
 use std::alloc::AllocGlobal;
 use std::random::RandomSource;
 use std::test::Fail;

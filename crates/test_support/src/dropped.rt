@@ -1,7 +1,7 @@
 //! A future whose drops are counted.
 use futures::task::Poll;
 use futures_buffered_core::ready_source::SlotHandle;
-use futures_buffered_sets::slot_future::SlotFuture;
+use futures_buffered_unordered::slot_future::SlotFuture;
 use std::sync::Arc;
 use std::sync::atomic::AtomicU64;
 use std::sync::atomic::Ordering::SeqCst;

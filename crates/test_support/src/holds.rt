@@ -5,9 +5,8 @@ use futures::Stream;
 use futures::task::Poll;
 use futures::test::MockTask;
 use futures_buffered_core::ready_source::{NewSource, ReadySource};
-use futures_buffered_sets::{
-    FuturesOrdered, FuturesOrderedBounded, FuturesUnordered, FuturesUnorderedBounded,
-};
+use futures_buffered_ordered::{FuturesOrdered, FuturesOrderedBounded};
+use futures_buffered_unordered::{FuturesUnordered, FuturesUnorderedBounded};
 
 /// What holds timed futures.
 pub trait Holds: Stream<Item = u64> + Drop {

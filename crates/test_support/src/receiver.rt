@@ -2,7 +2,7 @@
 use futures::task::Poll;
 use futures_buffered_core::ready_shared::SharedWaker;
 use futures_buffered_core::ready_source::SlotWaker;
-use futures_buffered_sets::slot_future::SlotFuture;
+use futures_buffered_unordered::slot_future::SlotFuture;
 use std::alloc::{AllocError, Global};
 use std::sync::{Arc, Mutex, Wait};
 
