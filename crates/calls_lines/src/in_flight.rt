@@ -13,8 +13,8 @@ use calls_world::world::make_place;
 use futures::Stream;
 use futures::task::{Context, Poll};
 use futures_buffered::in_flight::{
-    Came, FuturesUnorderedBy, FuturesOrdered, FuturesOrderedBounded, FuturesUnordered,
-    FuturesUnorderedBounded, IterExt, Kept, Key,
+    Came, FuturesOrdered, FuturesOrderedBounded, FuturesUnordered, FuturesUnorderedBounded,
+    FuturesUnorderedBy, IterExt, Kept, Key,
 };
 use futures_buffered_core::ready_core::NewFault;
 use futures_buffered_sets::{FusedStream, SizeHint};
