@@ -52,7 +52,7 @@ __attribute__((constructor)) static void begin(void) {
     atomic_store(&blocks, 0);
 }
 
-/* The folder of a process's threads has a link for each, beside two of its own. */
+/* The folder of a process's threads has a link for each, and two of its own. */
 static long other_threads(void) {
     struct stat threads;
     return stat("/proc/self/task", &threads) == 0 ? (long)threads.st_nlink - 3 : 0;

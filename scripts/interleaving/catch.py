@@ -51,7 +51,7 @@ def link_all(folder, to, but=()):
 
 
 def make_trap(kit, room):
-    """Makes the folder of links, whose clang keeps the first module of a program. Returns where that will lie."""
+    """Makes the folder of links, whose clang keeps the first module of a program. Returns the path of that module."""
     trap, kept, clang = room / "kit", room / MODULE, kit / "toolchain" / "bin" / "clang"
     link_all(kit, trap, but=("bin", "toolchain"))
     link_all(kit / "bin", trap / "bin", but=("rattle", "rt", "rtlib.py"))

@@ -80,7 +80,7 @@ static void find_races_with(int event, uint32_t thread) {
     turn_around((uint32_t)event, thread);
 }
 
-// The steps before, of others, behind which the next step of each thread does not have to come.
+// Earlier steps of others after which the next step of each thread does not have to come.
 void find_races(void) {
     struct touch touches[2];
     int writer, readers[MOST_THREADS];
@@ -111,7 +111,7 @@ static void note_moment(struct moment *it, uint32_t enabled, uint32_t last) {
         if (has(asleep, t) && !touch_one_another(up, t, up->chosen)) it->asleep |= 1u << t;
 }
 
-// Which of these may be chosen. None where each order from here on was seen, or will be.
+// Which of these may be chosen. None if each order from here on was seen, or will be.
 static uint32_t choices(const struct moment *it) {
     if (request.way == RACES) return it->enabled & ~it->asleep;
     if (request.way == PLAIN) return it->enabled;
@@ -124,7 +124,7 @@ static uint32_t choices(const struct moment *it) {
     return is_known_state(state_key(it->last_could_go_on ? it->last : NOBODY, preempted)) ? 0 : it->enabled;
 }
 
-// Who makes the next step, or nobody where this execution has shown all that it can.
+// The thread that makes the next step, or NOBODY if this execution has shown all that it can.
 uint32_t choose(uint32_t enabled, uint32_t last) {
     struct moment *it = &moments[depth];
     if (depth < kept) {

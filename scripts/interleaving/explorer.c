@@ -80,7 +80,7 @@ static void begin_execution(void) {
     settle();
 }
 
-// Lets those go on behind their yields who saw other than in their round before, and else, a few times, those who did not.
+// Lets threads that yield go on: those that saw other than in their round before; otherwise, a few times, those that did not.
 static int passes_yields(int spares) {
     int any = 0;
     for (uint32_t t = 0; t < thread_count; t++) {
@@ -124,7 +124,7 @@ static void note_finish(void) {
         note_fault("%lu blocks of memory are left, and %lu at the first end", live_blocks(), blocks_at_first);
 }
 
-// Who can make a step. None where the execution is over.
+// The threads that can make a step. None if the execution is over.
 static uint32_t who_can_go_on(void) {
     uint32_t enabled = 0, left = 0;
     while (outcome == GOES_ON) {
@@ -257,7 +257,7 @@ static int read_option(char **at) {
     return 1;
 }
 
-// How many words say the way, or 0 where they say none.
+// How many words say the way, or 0 if they say none.
 static int read_way(char **at, int left) {
     static const struct { const char *name; enum way way; int words; } ways[] = {
         {"races", RACES, 1}, {"states", STATES, 1}, {"plain", PLAIN, 1}, {"preemptions", PREEMPTIONS, 2}, {"replay", REPLAY, 2}};

@@ -46,7 +46,7 @@ struct step {
     uint64_t address, first, second;
 };
 
-// The function in which an atomic instruction stands, and whether it counts the holders of an `Arc`.
+// The function of an atomic instruction, and whether it counts the holders of an `Arc`.
 enum count { NO_COUNT, COUNTS_UP, COUNTS_DOWN };
 struct site {
     const char *function;

@@ -16,7 +16,7 @@ uint32_t thread_count, running;
 static char *stacks;
 static uint64_t explorer_stack;
 static int program_status;
-// Where the calls around the step that comes next of each thread return to.
+// The return addresses of the calls around the next step of each thread.
 static uint64_t next_frames[MOST_THREADS][MOST_FRAMES];
 
 // Keeps the registers that a call keeps on the stack of one coroutine, and goes on with those of another.
@@ -108,7 +108,7 @@ void make_thread(void *(*start)(void *), void *given) {
     thread_count++;
 }
 
-// Loops. A thread that yields goes on alone where it saw other than in its round before. Its own past says so, or two orders
+// Loops. A thread that yields goes on alone if it saw other than in its round before. Its own past says so, or two orders
 // of the same steps would differ.
 int goes_on_by_itself(const struct thread *thread) {
     return !thread->seen_count || (thread->round != thread->round_before && thread->free_rounds < MOST_YIELDS);
@@ -140,7 +140,7 @@ static int has_seen(const struct thread *it, uint64_t word) {
     return 0;
 }
 
-// Threads that looked at this word may go on behind their yields.
+// Threads that looked at this word may go on after their yields.
 static void tell_those_who_saw(uint64_t word) {
     for (uint32_t t = 0; t < thread_count; t++) {
         struct thread *it = &threads[t];
