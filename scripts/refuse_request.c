@@ -1,20 +1,18 @@
 /*
- * Stands between a program and the memory of the C library: refuses requests by their numbers, and counts what is asked for and given back.
+ * A library between a program and the memory of the C library: refuses requests by their numbers, and counts bytes and blocks.
  *
  *     gcc -shared -fPIC -O2 -o refuse_request.so refuse_request.c
  *     REFUSE_FIRST=7 REFUSE_LAST=9 MEMORY_REPORT=FILE LD_PRELOAD=./refuse_request.so PROGRAM
  *
- * The first request that the program makes has the number 1. Those from REFUSE_FIRST to REFUSE_LAST are refused; with no REFUSE_LAST, all
- * from REFUSE_FIRST on, and with no REFUSE_FIRST none. As the program ends, it writes to MEMORY_REPORT how many were refused, how many
- * threads run besides the one that ends it, and how many blocks it took and did not give back, as `3 0 0`. A program that a signal stopped
- * leaves no report.
+ * The program's first request has the number 1. Those from REFUSE_FIRST to REFUSE_LAST are refused; without REFUSE_LAST all from REFUSE_FIRST
+ * on, without REFUSE_FIRST none. At its end, unless a signal stopped it, the program writes to MEMORY_REPORT how many were refused, how many
+ * other threads run, and how many blocks it did not free, as `3 0 0`.
  *
- * Requests are those of `malloc` and `realloc`, by which a built program asks for all its memory. One of QUESTION bytes, more than there
- * are, asks for none: it begins a count of the bytes that are asked for. One of N bytes more, below MOST_ASKED, is refused unless fewer
- * than N were.
+ * Requests are those of `malloc` and `realloc`. One of QUESTION bytes, more than there are, begins a count of bytes and allocates nothing. One
+ * of N bytes more, below MOST_ASKED, is refused unless fewer than N were asked for since.
  *
- * What `calloc` gives is neither counted nor refused: a program does not call it. The C library does, for a block of each thread, which it
- * keeps for a later thread. That stands in a room of its own. For Linux with glibc, whose own functions serve what is not refused.
+ * `calloc` is neither counted nor refused: the C library alone calls it, for a block of each thread, which it keeps for a later thread. Its
+ * blocks are in a room of their own. For Linux with glibc.
  */
 #include <errno.h>
 #include <fcntl.h>
@@ -36,14 +34,10 @@ extern void *__libc_malloc(size_t size);
 extern void *__libc_realloc(void *block, size_t size);
 extern void __libc_free(void *block);
 
-static long first_refused = LONG_MAX;
-static long last_refused = LONG_MAX;
-static atomic_long requests;
-static atomic_long refused;
-static atomic_long blocks;
-static atomic_size_t bytes;
+static long first_refused = LONG_MAX, last_refused = LONG_MAX;
+static atomic_long requests, refused, blocks;
+static atomic_size_t bytes, taken;
 static _Alignas(64) char room[ROOM];
-static atomic_size_t taken;
 
 static long number_in(const char *variable) {
     const char *text = getenv(variable);
@@ -58,7 +52,7 @@ __attribute__((constructor)) static void begin(void) {
     atomic_store(&blocks, 0);
 }
 
-/* The folder of a process's threads has a link for each, beside two of its own. */
+/* The folder of a process's threads has a link for each, and two of its own. */
 static long other_threads(void) {
     struct stat threads;
     return stat("/proc/self/task", &threads) == 0 ? (long)threads.st_nlink - 3 : 0;
@@ -76,19 +70,22 @@ __attribute__((destructor)) static void report(void) {
     }
 }
 
-/* Ends the program with no call of what is registered for its end. */
+/* Ends the program without a call of what is registered for its end. */
 void _exit(int status) {
     report();
     syscall(SYS_exit_group, status);
     __builtin_unreachable();
 }
 
-static int is_refused(void) {
+/* Counts a request. If it is refused, the caller returns null. */
+static int is_refused(size_t size) {
     long number = atomic_fetch_add(&requests, 1) + 1;
+    atomic_fetch_add(&bytes, size);
     if (number < first_refused || number > last_refused) {
         return 0;
     }
     atomic_fetch_add(&refused, 1);
+    errno = ENOMEM;
     return 1;
 }
 
@@ -112,24 +109,14 @@ void *malloc(size_t size) {
     if (size >= QUESTION && size - QUESTION < MOST_ASKED) {
         return answer(size - QUESTION);
     }
-    atomic_fetch_add(&bytes, size);
-    if (is_refused()) {
-        errno = ENOMEM;
-        return NULL;
-    }
-    return taken_block(size);
+    return is_refused(size) ? NULL : taken_block(size);
 }
 
 void *realloc(void *block, size_t size) {
     if (!block) {
         return malloc(size);
     }
-    atomic_fetch_add(&bytes, size);
-    if (is_refused()) {
-        errno = ENOMEM;
-        return NULL;
-    }
-    return __libc_realloc(block, size);
+    return is_refused(size) ? NULL : __libc_realloc(block, size);
 }
 
 /* Nothing of the room is given twice. It is all zeros. */
@@ -143,14 +130,10 @@ void *calloc(size_t count, size_t size) {
     return room + at;
 }
 
-static int is_in_room(const void *block) {
-    return (uintptr_t)block - (uintptr_t)room < ROOM;
-}
-
 void free(void *block) {
-    if (!block || is_in_room(block)) {
-        return;
+    int is_in_room = (uintptr_t)block - (uintptr_t)room < ROOM;
+    if (block && !is_in_room) {
+        atomic_fetch_sub(&blocks, 1);
+        __libc_free(block);
     }
-    atomic_fetch_sub(&blocks, 1);
-    __libc_free(block);
 }

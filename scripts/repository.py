@@ -1,5 +1,5 @@
-"""What several scripts have in common: what they read of this repository, the crates that its crates.txt lists and the clauses of its
-sources; and how a program is laid out next to a copy of the libraries.
+"""What several scripts have in common: the crates of this repository, the clauses of its sources, and how a program is laid out next to a copy
+of the libraries.
 
     python3 scripts/repository.py     prints the crates, one in each line
 """
@@ -7,12 +7,13 @@ import pathlib
 import re
 import shutil
 import subprocess
+import sys
 
 ROOT = pathlib.Path(__file__).resolve().parent.parent
 
 
 def name_of(line):
-    """The crate that a line of a crates.txt lists, or nothing where it lists none."""
+    """The crate that a line of a crates.txt lists, or nothing if it lists none."""
     found = re.match(r"[\w-]+", line.partition("#")[0].strip())
     return found[0] if found else None
 
@@ -40,7 +41,7 @@ def with_those_below(crates):
 
 
 def end_of_clause(text, start):
-    """Where the braces that open behind this place are closed, and of an item that ends with a semicolon, that."""
+    """Where the braces that open after this place are closed, or the semicolon of an item that ends with one."""
     depth = 0
     for place in range(start, len(text)):
         depth += (text[place] == "{") - (text[place] == "}")
@@ -50,7 +51,7 @@ def end_of_clause(text, start):
 
 
 def clauses_in(text):
-    """Each clause of a source, in one line and without comments: what stands in `requires`, `ensures` and `ghost` items."""
+    """Each clause of a source, in one line and without comments: `requires`, `ensures` and `ghost` items."""
     text = re.sub(r"//[^\n]*", "", text)
     for found in re.finditer(r"\b(requires|ensures|ghost)\b", text):
         yield " ".join(text[found.start() : end_of_clause(text, found.start())].split())
@@ -60,6 +61,13 @@ def run(words, folder=None):
     """Runs a command without input, and returns how it ended and what it said."""
     words = [str(word) for word in words]
     return subprocess.run(words, cwd=folder, stdin=subprocess.DEVNULL, capture_output=True, text=True, errors="replace")
+
+
+def copy_libraries(room):
+    """Copies the libraries into another repository."""
+    copied = run([sys.executable, ROOT / "scripts" / "copy_crates", room])
+    if copied.returncode:
+        sys.exit(copied.stderr)
 
 
 def add_crate(room, name, uses, sources):

@@ -1,4 +1,4 @@
-"""Runs of built programs that stand in files, and how each has to end: what `run_fbuf` and `refuse_memory` have in common."""
+"""Runs of built programs, and how each has to end: what `run_fbuf` and `refuse_memory` have in common."""
 import dataclasses
 import itertools
 import os
@@ -13,14 +13,14 @@ from repository import ROOT
 
 CRATES = ROOT / "crates"
 SCRIPTS = CRATES / "fbuf" / "scripts"
-# A run that takes longer has not ended. The longest takes a tenth of a second, but for tests, which have as long as `rt` gives them.
+# A run that takes longer has not ended. The longest takes a tenth of a second, except tests, which have as long as `rt` gives them.
 SECONDS = 10
 SECONDS_OF_TEST = 60
 
 
 @dataclasses.dataclass(frozen=True)
 class Ended:
-    """How a run ended. The status of one that a signal stopped is the signal's number below zero; it is None where it did not end."""
+    """How a run ended. After a signal the status is its number below zero; it is None if the run did not end."""
 
     status: int | None
     output: bytes
@@ -29,8 +29,8 @@ class Ended:
 
 @dataclasses.dataclass(frozen=True)
 class StoredRun:
-    """What a program is run on, and how it has to end. Its input is a text or a file. Output and errors go where `to` says, in this order,
-    and else are kept. A limit is what is limited, as `resource` numbers it, and how much of it there is."""
+    """What a program is run on, and how it has to end. Its input is a text or a file. Output and errors go to the files of `to`, in this
+    order, or are kept. A limit is what is limited, as `resource` numbers it, and how much of it there is."""
 
     name: str
     program: str
@@ -44,12 +44,8 @@ class StoredRun:
 
 
 def bytes_of(path):
-    """What the file has, and nothing where there is none."""
+    """What the file has, or nothing if there is none."""
     return path.read_bytes() if path.is_file() else b""
-
-
-def status_in(path):
-    return int(bytes_of(path) or b"0")
 
 
 # What a line of a case may set, before a colon; its other lines are rows of the script.
@@ -130,12 +126,12 @@ def runs_of_fbuf():
 
 
 def run_of_crate(name):
-    """What the gate runs the program of a crate on: the files beside its src/."""
+    """What the gate runs the program of a crate on: the files next to its src/."""
     folder = CRATES / name
     words = tuple(bytes_of(folder / "args").decode().splitlines())
-    given = folder / "stdin" if (folder / "stdin").is_file() else pathlib.Path(os.devnull)
-    data = folder / "data" if (folder / "data").is_dir() else folder
-    wanted = Ended(status_in(folder / "status"), bytes_of(folder / "stdout"), b"")
+    given = next(path for path in (folder / "stdin", pathlib.Path(os.devnull)) if path.exists())
+    data = next(path for path in (folder / "data", folder) if path.exists())
+    wanted = Ended(int(bytes_of(folder / "status") or b"0"), bytes_of(folder / "stdout"), b"")
     return StoredRun(name, name, words, given, data, (), wanted)
 
 
@@ -162,8 +158,7 @@ def runs_of_tests(program):
 
 
 def built(name, ending=""):
-    """The programs that the gate, or `rt run`, left of a crate: as LLVM builds it, and as Rattle's own compiler does. With an ending, its
-    tests."""
+    """The programs that the gate, or `rt run`, left of a crate: by LLVM, and by Rattle's own compiler. With an ending, its tests."""
     made = CRATES / name / "out" / f"{name}{ending}"
     found = [path for path in (made, made.with_name(f"{name}.by-rattle")) if path.is_file()]
     if not found:
@@ -172,7 +167,7 @@ def built(name, ending=""):
 
 
 def opened(place):
-    """A descriptor that writes to the place: a file, or, where it is `closed`, a pipe that nobody reads any more."""
+    """A descriptor that writes to the place: a file, or, if it is `closed`, a pipe without a reader."""
     if place != "closed":
         return os.open(place, os.O_WRONLY)
     reader, writer = os.pipe()
@@ -188,11 +183,6 @@ def holding(text):
     return given
 
 
-def set_limits(limits):
-    for what, most in limits:
-        resource.setrlimit(what, (most, most))
-
-
 def end_of(run, program, environment=None):
     """Runs the program, in an environment of its own, and says how it ended."""
     given = os.open(run.given, os.O_RDONLY) if isinstance(run.given, pathlib.Path) else holding(run.given)
@@ -201,7 +191,7 @@ def end_of(run, program, environment=None):
     words = [os.path.abspath(program), *run.words]
     how = {"stdin": given, "stdout": output, "stderr": errors, "cwd": run.folder, "env": environment or {}}
     if run.limits:
-        how["preexec_fn"] = lambda: set_limits(run.limits)
+        how["preexec_fn"] = lambda: [resource.setrlimit(what, (most, most)) for what, most in run.limits]
     try:
         ended = subprocess.run(words, timeout=run.seconds, **how)
         return Ended(ended.returncode, ended.stdout or b"", ended.stderr or b"")

@@ -1,8 +1,8 @@
 """Catches the program that the toolchain compiles, and links it with the explorer.
 
-`rt try` hands the whole program, the libraries too, to the clang of the toolchain's folder as one module. Here it runs in a folder of links
-to the toolchain, in which the name of clang belongs to a script that keeps that module and ends there. So what is explored is what users
-build, but for the orders that clang may give to the plain instructions between two steps, and nothing is proved.
+`rt try` hands the whole program to the clang of the toolchain's folder as one module. Here it runs in a folder of links to the toolchain, in
+which clang is a script that keeps that module and ends. So what users build is explored, except for the orders that clang may give to the plain
+instructions between two steps, and nothing is proved.
 """
 import dataclasses
 import pathlib
@@ -51,7 +51,7 @@ def link_all(folder, to, but=()):
 
 
 def make_trap(kit, room):
-    """Makes the folder of links, whose clang keeps the first module of a program. Returns where that will lie."""
+    """Makes the folder of links, whose clang keeps the first module of a program. Returns the path of that module."""
     trap, kept, clang = room / "kit", room / MODULE, kit / "toolchain" / "bin" / "clang"
     link_all(kit, trap, but=("bin", "toolchain"))
     link_all(kit / "bin", trap / "bin", but=("rattle", "rt", "rtlib.py"))
@@ -106,7 +106,8 @@ class Caught:
 
 
 def catch_program(crate, room):
-    """Catches the program of a crate, and makes calls of its steps."""
+    """Catches the program of a crate in a new folder, and makes calls of its steps."""
+    room.mkdir()
     text, sites = instrument(catch(crate, room))
     (room / "explored.ll").write_text(text, encoding="utf-8")
     (room / "sites.c").write_text(table_of(sites), encoding="utf-8")

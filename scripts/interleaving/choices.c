@@ -14,12 +14,11 @@ struct moment {
     int touch_counts[MOST_THREADS];
 };
 
-enum { NOBODY = MOST_THREADS, MOST_CHANGES = 6 };
+enum { NOBODY = MOST_THREADS };
 
 static struct moment moments[MOST_STEPS];
 // So many choices are those of the execution before.
 static uint32_t kept;
-static uint32_t change_at[MOST_CHANGES], change_count;
 static uint8_t scheduled[MOST_STEPS];
 static uint32_t scheduled_count;
 
@@ -42,12 +41,6 @@ void read_schedule(void) {
         while (count-- && scheduled_count < MOST_STEPS) scheduled[scheduled_count++] = (uint8_t)thread;
         at = *rest ? rest + 1 : rest;
     }
-}
-
-void begin_random_order(uint64_t number, uint64_t longest) {
-    kept = 0;
-    change_count = number % 2 ? 2 + (uint32_t)(number / 2 % (MOST_CHANGES - 2)) : 0;
-    for (uint32_t k = 0; k < change_count; k++) change_at[k] = (uint32_t)(next_random() % (longest ? longest : 50));
 }
 
 // Whether the steps that came next of two threads touched one another.
@@ -87,7 +80,7 @@ static void find_races_with(int event, uint32_t thread) {
     turn_around((uint32_t)event, thread);
 }
 
-// The steps before, of others, behind which the next step of each thread does not have to come.
+// Earlier steps of others after which the next step of each thread does not have to come.
 void find_races(void) {
     struct touch touches[2];
     int writer, readers[MOST_THREADS];
@@ -118,25 +111,7 @@ static void note_moment(struct moment *it, uint32_t enabled, uint32_t last) {
         if (has(asleep, t) && !touch_one_another(up, t, up->chosen)) it->asleep |= 1u << t;
 }
 
-// A priority each, which changes at few steps.
-static uint32_t highest_priority(uint32_t enabled, uint32_t last) {
-    for (uint32_t k = 0; k < change_count; k++)
-        if (change_at[k] == depth && last != NOBODY) threads[last].priority = -(long)k - 1;
-    if (last != NOBODY && threads[last].next.kind == YIELD) threads[last].priority = -1000 - (long)depth;
-    uint32_t best = lowest(enabled);
-    for (uint32_t t = 0; t < thread_count; t++)
-        if (has(enabled, t) && threads[t].priority > threads[best].priority) best = t;
-    return best;
-}
-
-static uint32_t choose_at_random(uint32_t enabled, uint32_t last) {
-    if (change_count) return highest_priority(enabled, last);
-    uint32_t skipped = (uint32_t)(next_random() % (uint64_t)__builtin_popcount(enabled));
-    while (skipped--) enabled &= enabled - 1;
-    return lowest(enabled);
-}
-
-// Which of these may be chosen. None where each order from here on was seen, or will be.
+// Which of these may be chosen. None if each order from here on was seen, or will be.
 static uint32_t choices(const struct moment *it) {
     if (request.way == RACES) return it->enabled & ~it->asleep;
     if (request.way == PLAIN) return it->enabled;
@@ -149,10 +124,9 @@ static uint32_t choices(const struct moment *it) {
     return is_known_state(state_key(it->last_could_go_on ? it->last : NOBODY, preempted)) ? 0 : it->enabled;
 }
 
-// Who makes the next step, or nobody where this execution has shown all that it can.
+// The thread that makes the next step, or NOBODY if this execution has shown all that it can.
 uint32_t choose(uint32_t enabled, uint32_t last) {
     struct moment *it = &moments[depth];
-    if (request.way == RANDOM) return choose_at_random(enabled, last);
     if (depth < kept) {
         if (it->enabled != enabled) refuse("the program is not the same in two executions", depth);
         return it->chosen;

@@ -16,15 +16,13 @@ struct event events[MOST_STEPS];
 uint32_t depth;
 enum outcome outcome;
 char reason[300];
-struct request request = {.yields = 2, .alone = 400, .most = ~0ull, .seconds = 1e9, .preemptions = ~0u};
+struct request request = {.most = ~0ull, .seconds = 1e9, .preemptions = ~0u};
 
 static uint64_t executions, cut, unfair, longest, most_threads, blocks_at_first = ~0ull;
 static char *words_at_first;
 static struct timespec begun;
 static uint32_t spare_turns[MOST_THREADS];
 static const char *const kinds[] = {"-", "load", "store", "swap", "add", "sub", "and", "or", "xor", "cas", "park", "wake", "yield", "join"};
-
-uint64_t next_random(void) { return mix(request.seed += 0x9e3779b97f4a7c15ull); }
 
 // The first fault of an execution is the one that is told.
 void note_fault(const char *form, ...) {
@@ -82,7 +80,7 @@ static void begin_execution(void) {
     settle();
 }
 
-// Lets those go on behind their yields who saw other than in their round before, and else, a few times, those who did not.
+// Lets threads that yield go on: those that saw other than in their round before; otherwise, a few times, those that did not.
 static int passes_yields(int spares) {
     int any = 0;
     for (uint32_t t = 0; t < thread_count; t++) {
@@ -126,7 +124,7 @@ static void note_finish(void) {
         note_fault("%lu blocks of memory are left, and %lu at the first end", live_blocks(), blocks_at_first);
 }
 
-// Who can make a step. None where the execution is over.
+// The threads that can make a step. None if the execution is over.
 static uint32_t who_can_go_on(void) {
     uint32_t enabled = 0, left = 0;
     while (outcome == GOES_ON) {
@@ -151,7 +149,7 @@ static void execute(void) {
             break;
         }
         if (request.way == RACES) find_races();
-        int is_unfair = alone > request.alone && (enabled & ~(1u << last)) && request.way != REPLAY;
+        int is_unfair = alone > MOST_ALONE && (enabled & ~(1u << last)) && request.way != REPLAY;
         uint32_t thread = is_unfair ? NOBODY : choose(enabled, last);
         unfair += is_unfair;
         if (thread == NOBODY) {
@@ -231,7 +229,6 @@ static int stops_early(void) {
 // One execution after another, until a fault, the last order, or what was asked for at most.
 static int explore(void) {
     for (;;) {
-        if (request.way == RANDOM) begin_random_order(executions, longest);
         execute();
         executions++;
         cut += outcome == CUT;
@@ -241,36 +238,33 @@ static int explore(void) {
             print_steps();
             return print_summary("ended"), 0;
         }
-        if (request.way != RANDOM && !go_to_next_order()) return print_summary("exhausted"), 0;
-        if (stops_early()) return print_summary("stopped"), request.way == RANDOM ? 0 : 3;
+        if (!go_to_next_order()) return print_summary("exhausted"), 0;
+        if (stops_early()) return print_summary("stopped"), 3;
     }
 }
 
 static int refuse_words(void) {
-    printf("usage: [--yields N] [--most N] [--seconds N] [--wrong N] [--counts 1] races|states|plain|preemptions P|random N SEED|replay SCHEDULE WORD..\n");
+    printf("usage: [--most N] [--seconds N] [--wrong N] races|states|plain|preemptions P|replay SCHEDULE WORD..\n");
     return 2;
 }
 
 static int read_option(char **at) {
     if (!at[1]) return 0;
-    if (!strcmp(at[0], "--yields")) request.yields = (uint32_t)atoi(at[1]);
-    else if (!strcmp(at[0], "--most")) request.most = strtoull(at[1], NULL, 10);
+    if (!strcmp(at[0], "--most")) request.most = strtoull(at[1], NULL, 10);
     else if (!strcmp(at[0], "--seconds")) request.seconds = atof(at[1]);
     else if (!strcmp(at[0], "--wrong")) request.wrong = atoi(at[1]);
-    else if (!strcmp(at[0], "--counts")) request.counts = atoi(at[1]);
     else return 0;
     return 1;
 }
 
-// How many words say the way, or 0 where they say none.
+// How many words say the way, or 0 if they say none.
 static int read_way(char **at, int left) {
     static const struct { const char *name; enum way way; int words; } ways[] = {
-        {"races", RACES, 1}, {"states", STATES, 1}, {"plain", PLAIN, 1}, {"preemptions", PREEMPTIONS, 2}, {"random", RANDOM, 3}, {"replay", REPLAY, 2}};
+        {"races", RACES, 1}, {"states", STATES, 1}, {"plain", PLAIN, 1}, {"preemptions", PREEMPTIONS, 2}, {"replay", REPLAY, 2}};
     for (unsigned k = 0; k < sizeof ways / sizeof *ways; k++) {
         if (strcmp(at[0], ways[k].name) || left < ways[k].words) continue;
         request.way = ways[k].way;
         if (request.way == PREEMPTIONS) request.preemptions = (uint32_t)atoi(at[1]);
-        if (request.way == RANDOM) request.most = strtoull(at[1], NULL, 10), request.seed = strtoull(at[2], NULL, 10);
         if (request.way == REPLAY) request.schedule = at[1], read_schedule();
         return ways[k].words;
     }

@@ -1,44 +1,40 @@
 // Runs a small program of few threads again and again, each time in another order of its atomic steps.
 //
-// How an execution runs. `instrument.py` has made calls of these files out of each atomic instruction of the program, and out
-// of each call by which it starts, joins, parks or wakes a thread, takes memory, or asks the system for something. The threads
-// are coroutines of one kernel thread. One of them runs, up to its next step, and then the explorer says who goes on. The heap
-// is an arena. It and the words that the program may write outside of it are set back before each execution, so that one
-// differs from another in nothing but the order of the steps.
+// An execution: `instrument.py` has made calls of these files out of each atomic instruction, and out of each call by which the
+// program starts, joins, parks or wakes a thread, allocates, or asks the system for something. The threads are coroutines of one
+// kernel thread. A thread runs up to its next step, and then the explorer chooses a thread. The heap is an arena. The arena, and
+// the words that the program may write outside of it, are set back before each execution.
 //
-// What is a step: an atomic instruction; a park, a wake of parked threads; a yield; a join. Between two steps of its own a
-// thread does what nobody else sees, so the order of that does not matter. That a count of an `Arc` goes up is a step with
-// `--counts 1` alone: whoever counts up holds one already, so no other thread can tell when it does.
+// A step: an atomic instruction; a park, a wake of parked threads; a yield; a join. That the count of an `Arc` goes up is none,
+// since no other thread can tell when it does: the thread that counts holds one already.
 //
-// What is a fault: nobody can go on though a thread is left, asleep or in a loop in which nothing changes, which is how a lost
-// wake shows; the program ends with a status other than 0; a trap, an abort, a bad address; a step at a word that was freed; a
-// block that is freed twice; blocks left at the end, where there were fewer or more at the end of the first execution.
+// A fault: no thread can go on though one is left, asleep or in a loop in which nothing changes, which is how a lost wake shows;
+// a status other than 0; a trap, an abort, a bad address; a step at a word that was freed; a block that is freed twice; blocks
+// left at the end, if the first execution left fewer or more.
 //
 // The ways to explore:
 //
-//   races               every order, where two orders count as one if they differ only in neighbours that do not touch one
-//                       another: each race that is seen is turned around, and what was tried is not tried again before
-//                       a step touches it
-//   states              every order, where an execution ends once it comes to a state with a past that was come to before.
-//                       Each step that could write counts as a write, so that this shares no reduction with `races`, but that
-//                       steps at two words can change places
-//   plain               every order, one after another, without any reduction: for programs of few steps
+//   races               every order, except that two count as one if they differ only in neighbours that do not touch one
+//                       another: each race that is seen is turned around, and what was tried is tried again only after a
+//                       step has touched it
+//   states              every order, but an execution ends at a state whose past was seen before. Each step that could write
+//                       counts as a write, so the only reduction shared with `races` is that steps at two words change places
+//   plain               every order without any reduction: for programs of few steps
 //   preemptions P       as `states`, of the orders in which at most P times another goes on though the thread that ran could
-//   random N SEED       N orders by chance: half choose anew at each step, half go by priorities that change a few times
 //   replay 3x0,2x1..    one order: three steps of thread 0, two of thread 1. It prints each step
 //
-// What is not explored: weaker memory orders, since all steps stand in one order here; races of plain loads and stores, which
-// the language excludes; more threads, steps or words than the limits below; a read of freed memory that is no step, but that
-// freed bytes are overwritten. A thread that yields goes on once a word that it looked at since its last yield was changed.
-// Else it goes on only where it saw other than in its round before, `--yields` times at most. Where nobody else can go on, that
-// has no bound, and a round like the one before is followed three times. An order in which one thread makes more than 400 steps
-// while another could go on is given up, and counted. States are told apart by 64 bits of what led there.
+// Not explored: weaker memory orders; races of plain loads and stores, which the language excludes; more threads, steps or words
+// than the limits below; a read of freed memory that is no step, except that freed bytes are overwritten. A thread that yields
+// goes on once a word that it looked at since its last yield was changed. Otherwise it goes on only if it saw other than in its
+// round before, at most MOST_YIELDS times. If no other thread can go on, there is no such bound, and a round like the one before
+// is followed three times. An order in which one thread makes more than MOST_ALONE steps while another could go on is given up,
+// and counted. States are told apart by 64 bits of what led there.
 #ifndef EXPLORER_H
 #define EXPLORER_H
 #define _GNU_SOURCE
 #include <stdint.h>
 
-enum { MOST_THREADS = 8, MOST_STEPS = 6000, MOST_FRAMES = 12, MOST_SEEN = 256, STACK_BYTES = 1 << 20 };
+enum { MOST_THREADS = 8, MOST_STEPS = 6000, MOST_FRAMES = 12, MOST_SEEN = 256, MOST_ALONE = 400, MOST_YIELDS = 2, STACK_BYTES = 1 << 20 };
 
 enum kind { NOTHING, LOAD, STORE, SWAP, ADD, SUB, AND, OR, XOR, EXCHANGE, PARK, WAKE, YIELD, JOIN };
 
@@ -50,7 +46,7 @@ struct step {
     uint64_t address, first, second;
 };
 
-// The function in which an atomic instruction stands, and whether it counts the holders of an `Arc`.
+// The function of an atomic instruction, and whether it counts the holders of an `Arc`.
 enum count { NO_COUNT, COUNTS_UP, COUNTS_DOWN };
 struct site {
     const char *function;
@@ -75,7 +71,6 @@ struct thread {
     uint64_t seen[MOST_SEEN], round, round_before;
     uint32_t seen_count, free_rounds, last_rounds;
     int is_touched, last_event;
-    long priority;
 };
 
 // A word that a step touches, and whether it may change it.
@@ -92,7 +87,7 @@ struct event {
 };
 
 enum outcome { GOES_ON, FINISHED, CUT, FAILED };
-enum way { RACES, STATES, PLAIN, PREEMPTIONS, RANDOM, REPLAY };
+enum way { RACES, STATES, PLAIN, PREEMPTIONS, REPLAY };
 
 extern struct thread threads[MOST_THREADS];
 extern uint32_t thread_count, running;
@@ -104,10 +99,10 @@ extern char reason[300];
 // What was asked for.
 struct request {
     enum way way;
-    uint32_t preemptions, yields, alone;
-    uint64_t most, seed;
+    uint32_t preemptions;
+    uint64_t most;
     double seconds;
-    int wrong, counts;
+    int wrong;
     char **words;
     int word_count;
     const char *schedule;
@@ -122,7 +117,6 @@ static inline uint64_t mix(uint64_t x) {
 
 // explorer.c
 void note_fault(const char *form, ...) __attribute__((format(printf, 1, 2)));
-uint64_t next_random(void);
 
 // memory.c
 void forget_memory(void);
@@ -158,7 +152,6 @@ int has_room_for_states(void);
 
 // choices.c
 void read_schedule(void);
-void begin_random_order(uint64_t number, uint64_t longest);
 void find_races(void);
 uint32_t choose(uint32_t enabled, uint32_t last);
 int go_to_next_order(void);

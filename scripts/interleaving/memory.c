@@ -53,7 +53,7 @@ static void give_block(void *block) {
     blocks--;
 }
 
-// What the kit's allocator answers: whether there was memory, and where.
+// What Rattle's allocator returns: whether there was memory, and where.
 struct taken {
     uint64_t is_there, at;
 };

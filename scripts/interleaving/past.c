@@ -91,7 +91,7 @@ static void note_read(struct word *word, const struct thread *by, uint32_t threa
     raise_clock(word->read, by->clock);
 }
 
-// Writes down the step that this thread makes now: what came before it, and what comes behind it.
+// Notes the step that this thread makes now: what came before it, and what comes after it.
 void note_step(uint32_t thread) {
     struct thread *me = &threads[thread];
     struct touch touches[2];

@@ -1,4 +1,4 @@
-// What the explored program asks of the system, beside threads and memory.
+// What the explored program asks of the system, apart from threads and memory.
 #include "explorer.h"
 #include <stdio.h>
 #include <string.h>

@@ -16,7 +16,7 @@ uint32_t thread_count, running;
 static char *stacks;
 static uint64_t explorer_stack;
 static int program_status;
-// Where the calls around the step that comes next of each thread return to.
+// The return addresses of the calls around the next step of each thread.
 static uint64_t next_frames[MOST_THREADS][MOST_FRAMES];
 
 // Keeps the registers that a call keeps on the stack of one coroutine, and goes on with those of another.
@@ -104,15 +104,14 @@ void make_thread(void *(*start)(void *), void *given) {
     made->state = RUNS;
     made->last_event = -1;
     made->past = mix(thread_count + 77);
-    made->priority = (long)(next_random() >> 20);
     if (thread_count) memcpy(made->clock, threads[running].clock, sizeof made->clock);
     thread_count++;
 }
 
-// Loops. A thread that yields goes on alone where it saw other than in its round before. Its own past says so, or two orders
+// Loops. A thread that yields goes on alone if it saw other than in its round before. Its own past says so, or two orders
 // of the same steps would differ.
 int goes_on_by_itself(const struct thread *thread) {
-    return !thread->seen_count || (thread->round != thread->round_before && thread->free_rounds < request.yields);
+    return !thread->seen_count || (thread->round != thread->round_before && thread->free_rounds < MOST_YIELDS);
 }
 
 int can_go_on(uint32_t number) {
@@ -141,7 +140,7 @@ static int has_seen(const struct thread *it, uint64_t word) {
     return 0;
 }
 
-// Threads that looked at this word may go on behind their yields.
+// Threads that looked at this word may go on after their yields.
 static void tell_those_who_saw(uint64_t word) {
     for (uint32_t t = 0; t < thread_count; t++) {
         struct thread *it = &threads[t];
@@ -184,11 +183,9 @@ static struct event *stop_before(struct step step) {
     return event;
 }
 
-static int is_no_step(uint32_t site) { return explored_sites[site].count == COUNTS_UP && !request.counts; }
-
-// The event of an atomic step, once it is chosen, or nothing where it is none.
+// The event of an atomic step, once it is chosen, or nothing if it only counts a holder up.
 static struct event *begin(enum kind kind, uint32_t bytes, uint32_t site, uint64_t address, uint64_t first, uint64_t second) {
-    if (is_no_step(site)) return NULL;
+    if (explored_sites[site].count == COUNTS_UP) return NULL;
     return stop_before((struct step){kind, bytes, site, 0, address, first, second});
 }
 
@@ -259,7 +256,7 @@ uint64_t explored_pthread_self(void) { return FIRST_NAME + running; }
 int explored_sched_yield(void) {
     struct thread *me = &threads[running];
     stop_before((struct step){.kind = YIELD});
-    me->free_rounds += me->seen_count && me->round != me->round_before && me->free_rounds < request.yields;
+    me->free_rounds += me->seen_count && me->round != me->round_before && me->free_rounds < MOST_YIELDS;
     me->round_before = me->round;
     me->round = 0;
     me->last_event = -1;

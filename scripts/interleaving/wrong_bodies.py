@@ -1,9 +1,8 @@
 """Wrong bodies of the libraries, all in one build, of which a run asks for one.
 
 A body of `scenes/wrong/bodies.edits` is a paragraph: its name, what it does, its scene and the bound by which that finds it, and the edits of
-sources, each a text that stands once in the file and what comes in its place. Any blanks and line ends may stand between the words of a text.
-In what an edit puts in, `OLD` stands for the text, and `IS_WRONG` for the question whether this body is asked for. The explorer answers it in
-place of the system's `getpid`.
+sources, each a text that is once in the file, with any blanks and line ends between its words, and what replaces it. There `OLD` is that text,
+and `IS_WRONG` asks whether this body is asked for: the explorer answers in place of the system's `getpid`.
 """
 import dataclasses
 import re

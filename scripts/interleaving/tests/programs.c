@@ -55,7 +55,7 @@ int explored_main(void) {
 }
 
 // program: a_lock_of_one_word
-// Three threads take a lock by compare-exchange, each at most twice, and count under it: the count is right where they had it.
+// Three threads take a lock by compare-exchange, each at most twice, and count under it: the count is right if they had it.
 // wanted: 39 ends
 WORD lock = 0;
 WORD count = 0;
@@ -116,7 +116,7 @@ int explored_main(void) {
 }
 
 // program: a_lost_wake
-// A thread looks, and sleeps whatever has come since: it may sleep for good.
+// A thread looks, and sleeps whatever has come since: it may sleep permanently.
 // wanted: nobody can go on, thread 0 sleeps
 WORD come = 0;
 WORD bed = 0;
@@ -155,7 +155,7 @@ int explored_main(void) {
 }
 
 // program: a_wake_that_is_kept
-// The same by one word: a sleep at a word that has changed ends at once, so nobody sleeps for good.
+// The same by one word: a sleep at a word that has changed ends at once, so no thread sleeps permanently.
 // wanted: 3 ends
 WORD come = 0;
 
