@@ -22,7 +22,8 @@ use Rattle.futures_buffered_unordered.proofs.FuturesUnorderedPollLemmas.{any_lef
 use Rattle.futures_buffered_unordered.proofs.FuturesUnorderedBoundedLemmas.{passed_held}
 use Rattle.futures_buffered_unordered.specs.Merging.{CountEnds, LastAsks, MergeAsks, MergeGives, PollsMergeBounded, SlotStreamOf, unless_registered}
 use Rattle.futures_buffered_unordered.specs.MergeUnbounded.{GroupMayGive, ItemsComeFromGroups}
-use Rattle.futures_buffered_unordered.proofs.MergingLemmas.{only_registers}
+use Rattle.futures_buffered_unordered.proofs.GroupsTaskLemmas.{wakes_weaker}
+use Rattle.futures_buffered_unordered.proofs.MergingLemmas.{only_registers, unchanged_once}
 use Rattle.futures_buffered_unordered.proofs.MergeBoundedLemmas.{value_of, rest_of, same_of, ended_of}
 
 module _ {F A S : Type 0} (needs : S → ℕ → Type 0) (polled : ℕ → F → Poll (Option A) → F → Type 0) (steps : SourceSteps S) (marks : S → ℕ → Woke → S → Type 0)
@@ -118,17 +119,22 @@ covered_any needs cx Pending groups covered ends = covered_of needs cx Pending g
 
 -- A poll of a group, which registers unless the task is registered, as that of a merge that grows.
 module _ {St W A S : Type 0} (stream : SlotStreamOf St W A) (source : ReadySourceOf S W) (is_registered : Bool) (old new : Bounded St S) (answer : Poll (Option A)) (cx left : Context) (it : PollsMergeBounded stream (unless_registered is_registered source) old answer new cx left) where
-  wakes : (stopped : Bool) → WakesIf stopped (OnlyRegisters (unless_registered is_registered source).registers_poll) cx left → WakesIf stopped (OnlyRegisters source.registers_poll) cx left
-  wakes true woken = woken
-  wakes false once = only_registers source is_registered once.0 cx left once.1
-
   -- the end wakes nobody
   at_end : (answer : Poll (Option A)) (stopped : Bool) → MergeAsks stream.polled source.steps source.marks stopped old answer new → WakesIf stopped (OnlyRegisters source.registers_poll) cx left → IfReady answer (λ o. IfNone o (OnlyRegisters source.registers_poll cx left))
   at_end (Ready None) stopped gave woken = rw gave.last_count.2 at woken
   at_end (Ready (Some x)) stopped gave woken = tt
   at_end Pending stopped gave woken = tt
 
-  pub group_polls : PollsGroup source (MergeAsks stream.polled source.steps source.marks) (OnlyRegisters source.registers_poll) old answer new cx left
+  pub group_polls : PollsGroup source (MergeAsks stream.polled source.steps source.marks) (OnlyRegisters source.registers_poll) is_registered old answer new cx left
   group_polls =
-      let woken = wakes it.stopped it.woken in
-      record { stopped = it.stopped; asked = it.gave; woken = woken; covered = it.covered; passed = at_end answer it.stopped it.gave woken; kept = it.kept }
+      let registered = OnlyRegisters (unless_registered is_registered source).registers_poll in
+      let woken = wakes_weaker registered (OnlyRegisters source.registers_poll) it.stopped cx left (λ once. only_registers source is_registered once.0 cx left once.1) it.woken in
+      record {
+        stopped = it.stopped;
+        asked = it.gave;
+        woken = woken;
+        unchanged = λ already. wakes_weaker registered (λ before after. after ≡ before) it.stopped cx left (λ once. unchanged_once source is_registered already once.0 cx left once.1) it.woken;
+        covered = it.covered;
+        passed = at_end answer it.stopped it.gave woken;
+        kept = it.kept;
+      }

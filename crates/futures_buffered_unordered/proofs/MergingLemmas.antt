@@ -1,5 +1,5 @@
 -- From one count of names of a set to a poll of its streams.
-use Rattle.std.proofs.Common.{◌≡◌, ◌+◌, ℕ, Bool, true, false, List, [], ◌∷◌, Option, Some, None, IfNone, OnSome, ◌<◌, refl, ap, subst, arith, ◌∙◌}
+use Rattle.std.proofs.Common.{◌≡◌, ◌+◌, ℕ, Bool, true, false, true≢false, IsTrue, List, [], ◌∷◌, Option, Some, None, IfNone, OnSome, ◌<◌, refl, sym, ap, subst, arith, ◌∙◌}
 use Rattle.std.specs.List.{FoldsTo}
 use Rattle.futures.specs.Poll.{IfReady, OnPending}
 use Rattle.futures.specs.Task.{Covers, Keeps}
@@ -27,6 +27,12 @@ pub only_registers : {S W : Type 0} (source : ReadySourceOf S W) (is_registered 
 only_registers source false sources cx left h = (sources, h)
 only_registers source true [] cx left h = ([], h)
 only_registers source true (s ∷ sources) cx left h = subst (λ c. OnlyRegisters source.registers_poll c left) h.1 (only_registers source true sources h.0 left h.2)
+
+-- and leaves that task unchanged
+pub unchanged_once : {S W : Type 0} (source : ReadySourceOf S W) (is_registered : Bool) → IsTrue is_registered → (sources : List S) (cx left : Context) → FoldsTo (λ cx s next. (unless_registered is_registered source).registers_poll s cx next) cx sources left → left ≡ cx
+unchanged_once source false already sources cx left h = absurd (true≢false (sym already))
+unchanged_once source true already [] cx left h = sym h
+unchanged_once source true already (s ∷ sources) cx left h = unchanged_once source true already sources h.0 left h.2 ∙ h.1
 
 module _ {St W A S : Type 0} (stream : SlotStreamOf St W A) (source : ReadySourceOf S W) where
   -- a poll of which the first count is the last

@@ -48,7 +48,7 @@ pub trait AskGroup<F: Drop, S: NewSource, K> {
         requires registered { IsTrue is_registered → Covers cx.old (S.needs group.old.source) }
         ensures keeps { KeepsGroup S.needs group.old result group.new }
         ensures pollable { AllHeld can_poll group.new.slots }
-        ensures polls { PollsGroup S.ReadySource asks passes
+        ensures polls { PollsGroup S.ReadySource asks passes is_registered
             group.old result group.new cx.old cx.new };
 
     // `passes` is reflexive and transitive, so it holds of any number of groups that end one after another, also of
