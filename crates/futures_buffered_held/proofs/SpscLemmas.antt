@@ -7,7 +7,7 @@ use Rattle.rtrb.specs.Fifo.{Allowed}
 use Rattle.rtrb.specs.Ring.{SameConsumer, received, known_items}
 use Rattle.futures.specs.declared.task.Poll.{Poll}
 use Rattle.futures.specs.declared.task.Poll.TheVariants.{Ready, Pending}
-use Rattle.futures_buffered_merges.specs.SlotStream.{items_in}
+use Rattle.futures_buffered_unordered.specs.SlotStream.{items_in}
 use Rattle.futures_buffered_held.specs.Spsc.{ComesThrough, FindsNone, ReceivesNext, KeepsSendingOrder}
 
 module _ {T : Type 0} where

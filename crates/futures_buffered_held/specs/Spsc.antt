@@ -10,7 +10,7 @@ pub use Rattle.rtrb.specs.Ring.{ConsumerLooked}
 use Rattle.rtrb.specs.Fifo.{Allowed}
 use Rattle.futures.specs.declared.task.Poll.{Poll}
 use Rattle.futures.specs.declared.task.Poll.TheVariants.{Ready, Pending}
-use Rattle.futures_buffered_merges.specs.SlotStream.{Gave}
+use Rattle.futures_buffered_unordered.specs.SlotStream.{Gave}
 use Rattle.futures_buffered_held.specs.declared.spsc.TrySendError.{TrySendError}
 use Rattle.futures_buffered_held.specs.declared.spsc.TrySendError.TheVariants.{Full, Closed}
 use Rattle.futures_buffered_held.specs.declared.spsc.TryRecvError.{TryRecvError}

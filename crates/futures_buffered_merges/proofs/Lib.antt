@@ -1,10 +1,2 @@
-pub mod SlotStreamLemmas
-pub mod MergeBoundedLemmas
-pub mod MergingLemmas
-pub mod MergeUnboundedLemmas
-pub mod MergeUnboundedGaveLemmas
-pub mod MergeBoundedPushesLemmas
-pub mod MergeUnboundedPushesLemmas
 pub mod InFlightMergeLemmas
 pub mod WaitingMergeLemmas
-pub mod MergeStreamLemmas

@@ -1,6 +1,2 @@
-pub mod SlotStream
-pub mod Merging
-pub mod MergeBounded
-pub mod MergeUnbounded
 pub mod WithEnd
 pub mod InFlightMerge

@@ -1,5 +1,5 @@
 -- What a poll of a bounded set has asked so far, and what it makes of what the set holds and may give.
-use Rattle.std.proofs.Common.{◌≡◌, ℕ, ◌+◌, ◌<◌, List, [], ◌∷◌, ◌++◌, Option, Some, None, IfSome, OnSome, is_some, cond, refl, sym, ap, subst, arith, ◌∙◌}
+use Rattle.std.proofs.Common.{◌≡◌, ℕ, ◌+◌, ◌<◌, List, [], ◌∷◌, Option, Some, None, IfSome, OnSome, is_some, cond, refl, sym, ap, subst, arith, ◌∙◌}
 use Rattle.std.specs.List.{FoldsTo}
 use Rattle.std.proofs.lemmas.List.Sums.{sum_by-set}
 use Rattle.futures.specs.declared.task.context.Context.{Context}
@@ -80,17 +80,6 @@ module _ {F A S : Type 0} (polled : ℕ → F → Poll A → F → Type 0) (step
   same_of old new (Ready o) h same = tt
   same_of old new Pending h same = Gathers-Within {A = A} {P = AnyMayGive polled old.slots} {Q = AnyMayGive polled new.slots} (λ y. poll_still y old new Pending h) _ _ same
 
--- no registration, and one
-pub registers_none : {S : Type 0} (registers_poll : S → Context → Context → Type 0) (old new : Context) → new ≡ old → OnlyRegisters registers_poll old new
-registers_none registers_poll old new same = ([], sym same)
-
+-- one registration
 pub registers_once : {S : Type 0} (registers_poll : S → Context → Context → Type 0) (old new : Context) (source : S) → registers_poll source old new → OnlyRegisters registers_poll old new
 registers_once registers_poll old new source once = (source ∷ [], (new, once, refl))
-
--- further registrations
-pub registers_more : {S : Type 0} (registers_poll : S → Context → Context → Type 0) (old mid new : Context) → OnlyRegisters registers_poll old mid → OnlyRegisters registers_poll mid new → OnlyRegisters registers_poll old new
-registers_more {S} registers_poll old mid new before then = (before.0 ++ then.0, joined before.0 old before.1)
-  where
-    joined : (sources : List S) (cx : Context) → FoldsTo (λ cx s next. registers_poll s cx next) cx sources mid → FoldsTo (λ cx s next. registers_poll s cx next) cx (sources ++ then.0) new
-    joined [] cx same = rw same then.1
-    joined (source ∷ sources) cx h = (h.0, h.1, joined sources h.0 h.2)

@@ -12,6 +12,11 @@ use Rattle.futures_buffered_unordered.proofs.GroupsPollLemmas.{SoFar, so_far_end
 pub wakes_on : (registers : Context → Context → Type 0) (first then : Bool) (cx mid left : Context) → (registers cx mid → registers mid left → registers cx left) → Keeps mid left → WakesIf first registers cx mid → WakesIf then registers mid left → WakesIf (first || then) registers cx left
 wakes_on registers first then cx mid left more kept before after = grind arith
 
+-- what a poll leaves of its task if it did not stop, by a weaker relation
+pub wakes_weaker : (P Q : Context → Context → Type 0) (stopped : Bool) (cx left : Context) → (P cx left → Q cx left) → WakesIf stopped P cx left → WakesIf stopped Q cx left
+wakes_weaker P Q true cx left weaker woken = woken
+wakes_weaker P Q false cx left weaker same = weaker same
+
 module _ {X A : Type 0} (asks : Bool → X → Poll (Option A) → X → Type 0) (registers : Context → Context → Type 0) (old : Groups X) where
   -- the groups that were asked so far, and what they left of the task
   abbrev pub LeftSoFar : ℕ → Bool → Groups X → Context → Context → Type 0

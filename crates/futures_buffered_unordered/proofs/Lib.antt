@@ -13,3 +13,11 @@ pub mod FuturesUnorderedInvariantLemmas
 pub mod FuturesUnorderedLemmas
 pub mod FuturesUnorderedPollLemmas
 pub mod FuturesUnorderedStreamLemmas
+pub mod SlotStreamLemmas
+pub mod MergeBoundedLemmas
+pub mod MergingLemmas
+pub mod MergeUnboundedLemmas
+pub mod MergeUnboundedGaveLemmas
+pub mod MergeBoundedPushesLemmas
+pub mod MergeUnboundedPushesLemmas
+pub mod MergeStreamLemmas

@@ -1,6 +1,6 @@
 -- What a contract sees of a growing set, and what its calls make of it.
 use Rattle.std.specs.Prelude.{◌≡◌, ℕ, ◌+◌, ◌-◌, ◌*◌, ◌<◌, Bool, List, [], ◌∷◌, ◌++◌, ◌⊎◌, Option, IfNone, refl, Result}
-use Rattle.std.specs.Prelude.{OnOk, OnErr}
+use Rattle.std.specs.Prelude.{OnOk, OnErr, IsTrue}
 use Rattle.std.specs.List.{sum_by, All, FoldsTo}
 use Rattle.std.specs.Coded.{Coded, code_by, coded×, coded_ℕ}
 use Rattle.futures.specs.Task.{Covers, Keeps}
@@ -161,12 +161,14 @@ MakesSharedSet from = MakesGrown from FIRST_GROUP (λ n. IsNewGrowing IsNewShare
     (GrowingPushes MarksShared IsNewShared FIRST_GROUP) SetRefuses
 
 -- One poll of one group, which takes the group from `old` to `new` and the task from `cx` to `left`. `asks` says what
--- the group may return and whether it stopped. `passes` says what a result of `None` makes of the task.
+-- the group may return and whether it stopped. `passes` says what a result of `None` makes of the task. `is_registered`
+-- says that the task was registered already.
 pub record PollsGroup
     {F A S W : Type 0}
     (source : ReadySourceOf S W)
     (asks : Bool → Bounded F S → Poll (Option A) → Bounded F S → Type 0)
     (passes : Context → Context → Type 0)
+    (is_registered : Bool)
     (old : Bounded F S)
     (answer : Poll (Option A))
     (new : Bounded F S)
@@ -177,6 +179,8 @@ pub record PollsGroup
   pub asked : asks stopped old answer new
   -- if the group stopped, the task is woken; otherwise the task is at most registered
   pub woken : WakesIf stopped (OnlyRegisters source.registers_poll) cx left
+  -- if the task was registered already and the group did not stop, the task is unchanged
+  pub unchanged : IsTrue is_registered → WakesIf stopped (λ before after. after ≡ before) cx left
   -- the task of a pending group is registered where its source waits, or is woken
   pub covered : OnPending answer (Covers left (source.needs new.source))
   -- if the result is `None`, `passes` says what that makes of the task

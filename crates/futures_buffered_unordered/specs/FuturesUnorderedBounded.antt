@@ -1,6 +1,7 @@
 -- What a contract sees of a bounded set, and what its calls make of it.
-use Rattle.std.specs.Prelude.{◌≡◌, ℕ, ◌+◌, ◌<◌, List, ◌++◌, map, length, Option, Some, None, Bool, true, false, refl}
-use Rattle.std.specs.Prelude.{Result, OnOk, IfErr}
+use Rattle.std.specs.Prelude.{◌≡◌, ℕ, ◌+◌, ◌<◌, List, [], ◌∷◌, ◌++◌, map, length, Option, Some, None, Bool, true, false}
+use Rattle.std.specs.Prelude.{refl, Result, OnOk, IfErr}
+use Rattle.std.proofs.Common.{sym, subst}
 use Rattle.std.specs.List.{FoldsTo, range_with_len}
 use Rattle.std.specs.Option.{option_to_list}
 use Rattle.std.specs.Coded.{Coded, code_by, coded×, coded_ℕ}
@@ -151,6 +152,24 @@ IsWoken cx = (s : ℕ) → Hears cx s
 abbrev pub OnlyRegisters : {S : Type 0} → (S → Context → Context → Type 0) → Context → Context → Type 0
 OnlyRegisters {S} registers_poll old new = (sources : List S)
     × FoldsTo (λ cx source next. registers_poll source cx next) old sources new
+
+module _ {S : Type 0} (registers_poll : S → Context → Context → Type 0) where
+  -- an unchanged task is one without a registration
+  abbrev pub registers_none : (old new : Context) → new ≡ old → OnlyRegisters registers_poll old new
+  registers_none old new same = ([], sym same)
+
+  -- registrations after others are registrations
+  abbrev pub registers_after : (mid new : Context) → OnlyRegisters registers_poll mid new → (sources : List S)
+      → (old : Context) → FoldsTo (λ cx source next. registers_poll source cx next) old sources mid
+      → OnlyRegisters registers_poll old new
+  registers_after mid new later [] old same = subst (λ cx. OnlyRegisters registers_poll cx new) (sym same) later
+  registers_after mid new later (source ∷ sources) old h =
+      let rest = registers_after mid new later sources h.0 h.2 in
+      (source ∷ rest.0, (h.0, h.1, rest.1))
+
+  abbrev pub registers_more : (old mid new : Context) → OnlyRegisters registers_poll old mid
+      → OnlyRegisters registers_poll mid new → OnlyRegisters registers_poll old new
+  registers_more old mid new before later = registers_after mid new later before.0 old before.1
 
 module _
     {F A S : Type 0}

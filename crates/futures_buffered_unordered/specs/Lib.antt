@@ -9,3 +9,7 @@ pub mod GroupsStep
 pub mod Interleaves
 pub mod FuturesUnordered
 pub mod FuturesUnorderedInvariant
+pub mod SlotStream
+pub mod Merging
+pub mod MergeBounded
+pub mod MergeUnbounded

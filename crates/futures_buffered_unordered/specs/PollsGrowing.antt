@@ -16,8 +16,8 @@ use Rattle.futures_buffered_unordered.specs.FuturesUnordered.{AnyNeeds, Growing,
 -- One poll of groups, which takes them from `old` to `new` and the task from `cx` to `left`. `ask` says how one group
 -- is polled.
 pub record PollsGroups
-    {R F S A E W : Type 0}
-    (ask : AskGroupOf R F S A E W)
+    {R F S K A E W : Type 0}
+    (ask : AskGroupOf R F S K A E W)
     (source : ReadySourceOf S W)
     (old : Growing F S)
     (answer : Poll (Option A))
@@ -48,7 +48,7 @@ module _
     (source : ReadySourceOf S W)
   where
     -- how a set polls a group: as a bounded set is polled by the rule; a result of `None` does not change the task
-    abbrev pub by_rule : AskGroupOf R F S A (Unit {0}) W
+    abbrev pub by_rule : AskGroupOf R F S (Unit {0}) A (Unit {0}) W
     by_rule = record {
       can_poll = rule.can_poll;
       asks = PollAsks rule.polled source.steps;

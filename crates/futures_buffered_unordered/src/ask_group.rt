@@ -8,7 +8,7 @@ ghost use Rattle.futures_buffered_unordered.specs.Held.{AllHeld};
 ghost use Rattle.futures_buffered_unordered.specs.FuturesUnordered.{PollsGroup};
 ghost use Rattle.futures_buffered_unordered.specs.FuturesUnorderedInvariant.{KeepsGroup};
 
-use crate::futures_unordered_bounded::FuturesUnorderedBounded;
+use crate::futures_unordered_bounded::{BoundedSet, FuturesUnorderedBounded, OfFutures};
 use crate::poll_one::PollOne;
 use futures::task::{Context, Poll};
 use futures_buffered_core::ready_source::NewSource;
@@ -17,7 +17,7 @@ use futures_buffered_core::ready_source::NewSource;
 ///
 /// An impl says by `can_poll` which values may be polled. It says by `asks` what a poll of a group may return and
 /// leave. A group that returns `None` holds nothing, and a pending group holds a value.
-pub trait AskGroup<F: Drop, S: NewSource> {
+pub trait AskGroup<F: Drop, S: NewSource, K> {
     ghost use Rattle.futures.specs.declared.task.Poll.{Poll};
     ghost use Rattle.futures.specs.declared.task.context.Context.{Context};
     ghost use Rattle.futures_buffered_unordered.specs.FuturesUnorderedBounded.{Bounded};
@@ -40,7 +40,7 @@ pub trait AskGroup<F: Drop, S: NewSource> {
     /// group next to it.
     fn ask(
         &self,
-        group: &mut FuturesUnorderedBounded<F, S>,
+        group: &mut BoundedSet<F, S, K>,
         cx: &mut Context<'_>,
         is_registered: bool,
     ) -> Poll<Option<Self::Output>>
@@ -48,7 +48,7 @@ pub trait AskGroup<F: Drop, S: NewSource> {
         requires registered { IsTrue is_registered → Covers cx.old (S.needs group.old.source) }
         ensures keeps { KeepsGroup S.needs group.old result group.new }
         ensures pollable { AllHeld can_poll group.new.slots }
-        ensures polls { PollsGroup S.ReadySource asks passes
+        ensures polls { PollsGroup S.ReadySource asks passes is_registered
             group.old result group.new cx.old cx.new };
 
     // `passes` is reflexive and transitive, so it holds of any number of groups that end one after another, also of
@@ -62,7 +62,7 @@ pub trait AskGroup<F: Drop, S: NewSource> {
 #[derive(Drop)]
 pub(crate) struct ByRule<'r, R>(pub(crate) &'r R);
 
-impl<F: Drop, S: NewSource, R: PollOne<F, S::Waker>> AskGroup<F, S> for ByRule<'_, R> {
+impl<F: Drop, S: NewSource, R: PollOne<F, S::Waker>> AskGroup<F, S, OfFutures> for ByRule<'_, R> {
     ghost use Rattle.std.proofs.Common.{◌≡◌, refl, ◌∙◌};
 
     type Output = R::Output;

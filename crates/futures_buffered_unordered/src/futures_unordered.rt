@@ -29,7 +29,7 @@ ghost use Rattle.futures_buffered_unordered.specs.PollsGrowing.{PollsGroups, Pol
 ghost use Rattle.futures_buffered_unordered.specs.Extended.{Extends, HoldsAllOf, StopsAtBound};
 
 use crate::ask_group::{AskGroup, ByRule};
-use crate::futures_unordered_bounded::{FuturesUnorderedBounded, POLL_LIMIT};
+use crate::futures_unordered_bounded::{BoundedSet, OfFutures, POLL_LIMIT};
 use crate::poll_one::PollOne;
 use futures::task::{Context, Poll};
 use futures_buffered_core::ready_core::{MAX_CAPACITY, NewFault};
@@ -46,15 +46,15 @@ pub const MAX_HELD: usize = usize::MAX / 2;
 
 const _: () = prove!(FIRST_GROUP == 32);
 
-/// Futures, or streams, in groups of slots.
+/// Futures or streams in groups of slots. The kind `K` says which.
 ///
 /// A contract sees the groups, each a bounded set, the place at which the next poll begins, and the limit. The limit
 /// says how many ready slots one poll takes from each group, at most. Only the calls that make a set, and a push that
 /// makes a group, allocate. No call waits for another thread. Calls that return how many values are held or fit take
-/// the same time at any number of groups. A growing merge is made of such groups too.
+/// the same time at any number of groups.
 #[derive(Drop)]
-pub struct FuturesUnordered<F: Drop, S: NewSource = SharedReady> {
-    groups: Vec<FuturesUnorderedBounded<F, S>>,
+pub struct GrowingSet<F: Drop, S: NewSource, K> {
+    groups: Vec<BoundedSet<F, S, K>>,
     place: usize,
     held: usize,
     limit: usize,
@@ -62,7 +62,10 @@ pub struct FuturesUnordered<F: Drop, S: NewSource = SharedReady> {
     alloc: Global,
 }
 
-impl<F: Drop, S: NewSource> Model for FuturesUnordered<F, S> {
+/// Any number of futures.
+pub type FuturesUnordered<F, S = SharedReady> = GrowingSet<F, S, OfFutures>;
+
+impl<F: Drop, S: NewSource, K> Model for GrowingSet<F, S, K> {
     ghost use Rattle.futures_buffered_unordered.specs.FuturesUnordered.{Growing, growing_code};
 
     ghost Value = { Growing F S };
@@ -83,10 +86,7 @@ impl<F: Drop, S: NewSource> Model for FuturesUnordered<F, S> {
 // Drops the group at this place, which holds nothing. A group ends once, so this code is not inlined into a poll.
 #[cold]
 #[inline(never)]
-fn drop_group<F: Drop, S: ReadySource>(
-    groups: &mut Vec<FuturesUnorderedBounded<F, S>>,
-    place: usize,
-)
+fn drop_group<F: Drop, S: ReadySource, K>(groups: &mut Vec<BoundedSet<F, S, K>>, place: usize)
     requires { place < length groups.old.items }
     ensures { groups.new.items ≡ take place groups.old.items ++ drop (place + 1) groups.old.items }
 {
@@ -94,13 +94,13 @@ fn drop_group<F: Drop, S: ReadySource>(
     ended.let_source_go();
 }
 
-impl<F: Drop, S: NewSource> FuturesUnordered<F, S> {
+impl<F: Drop, S: NewSource, K> GrowingSet<F, S, K> {
     /// Makes a set without groups, whose sources will be made by `env`. Does not allocate.
     pub fn without_groups(env: S::Env, alloc: Global, limit: usize) -> Self
         requires { 1 ≤ limit }
         ensures { result ≡ no_groups limit }
     {
-        FuturesUnordered {
+        GrowingSet {
             groups: Vec::new(alloc),
             place: 0,
             held: 0,
@@ -108,28 +108,6 @@ impl<F: Drop, S: NewSource> FuturesUnordered<F, S> {
             env,
             alloc,
         }
-    }
-
-    /// Makes an empty set with one group of `n` slots, or with none if `n` is 0. The set keeps `env`, by which its
-    /// sources are made.
-    ///
-    /// Allocates and takes time in proportion to `n`.
-    pub fn over(env: S::Env, alloc: Global, n: usize) -> Result<Self, NewFault>
-        ensures { MakesGroup n (IsNewGrowing S.made n POLL_LIMIT) result }
-    {
-        Self::over_limit(env, alloc, n, POLL_LIMIT)
-    }
-
-    /// As `over`; one poll takes at most `limit` ready slots from each group, also from groups that are made later.
-    pub fn over_limit(env: S::Env, alloc: Global, n: usize, limit: usize) -> Result<Self, NewFault>
-        requires { 1 ≤ limit }
-        ensures { MakesGroup n (IsNewGrowing S.made n limit) result }
-    {
-        let mut groups = Self::without_groups(env, alloc, limit);
-        if n > 0 {
-            groups.add_group(n)?;
-        }
-        Ok(groups)
     }
 
     /// The number of values in the set.
@@ -191,7 +169,7 @@ impl<F: Drop, S: NewSource> FuturesUnordered<F, S> {
     }
 
     // Makes an empty group next to the others.
-    fn make_group(&mut self, capacity: usize) -> Result<FuturesUnorderedBounded<F, S>, NewFault>
+    fn make_group(&mut self, capacity: usize) -> Result<BoundedSet<F, S, K>, NewFault>
         ensures group { MakesSlots capacity (IsNewSet S.made capacity self.old.limit) result }
         ensures beside { IfOk result (λ group.
             All (λ other. WaitsAlike S.needs other.source group.source)
@@ -200,9 +178,7 @@ impl<F: Drop, S: NewSource> FuturesUnordered<F, S> {
     {
         let groups = self.groups.len();
         if groups == 0 {
-            return FuturesUnorderedBounded::with_new_source(
-                &self.env, self.alloc, capacity, self.limit,
-            );
+            return BoundedSet::with_new_source(&self.env, self.alloc, capacity, self.limit);
         }
         self.groups[groups - 1].make_sibling(self.alloc, capacity)
     }
@@ -236,7 +212,7 @@ impl<F: Drop, S: NewSource> FuturesUnordered<F, S> {
     }
 
     // The groups, oldest first.
-    pub(crate) fn queues(&self) -> &Vec<FuturesUnorderedBounded<F, S>> {
+    pub(crate) fn queues(&self) -> &Vec<BoundedSet<F, S, K>> {
         &self.groups
     }
 
@@ -306,7 +282,7 @@ impl<F: Drop, S: NewSource> FuturesUnordered<F, S> {
     }
 
     // Adds each item, in order, up to the first whose push fails.
-    fn add_each<I: IntoIterator<Item = F>>(&mut self, iter: I) -> Result<(), NewFault>
+    pub(crate) fn add_each<I: IntoIterator<Item = F>>(&mut self, iter: I) -> Result<(), NewFault>
         requires { IsFiniteSource (items_of I.IntoIterator I.IntoIter.Iterator iter) }
         ensures all { OnOk result (HoldsAllOf (items_of I.IntoIterator I.IntoIter.Iterator iter)
             (PushesEach S.marks S.made self.old) self.new) }
@@ -348,7 +324,7 @@ impl<F: Drop, S: NewSource> FuturesUnordered<F, S> {
 
     // Polls the group at the place, and continues at the next place if the group returns no output. Drops a group that
     // has ended, unless it is the last.
-    fn ask_one<R: AskGroup<F, S>>(
+    fn ask_one<R: AskGroup<F, S, K>>(
         &mut self,
         rule: &R,
         cx: &mut Context<'_>,
@@ -394,7 +370,7 @@ impl<F: Drop, S: NewSource> FuturesUnordered<F, S> {
     /// Returns `Ready(None)` if each group returned `None`. Drops a group that returned `None`, unless it is the last.
     /// Apart from the polls of the groups, does not allocate. Apart from them, takes time in proportion to the number
     /// of groups and to the slots of dropped groups.
-    pub fn poll_groups<R: AskGroup<F, S>>(
+    pub fn poll_groups<R: AskGroup<F, S, K>>(
         &mut self,
         rule: &R,
         cx: &mut Context<'_>,
@@ -420,6 +396,30 @@ impl<F: Drop, S: NewSource> FuturesUnordered<F, S> {
             Poll::Ready(None)
         }
     }
+}
+
+impl<F: Drop, S: NewSource> FuturesUnordered<F, S> {
+    /// Makes an empty set with one group of `n` slots, or with none if `n` is 0. The set keeps `env`, by which its
+    /// sources are made.
+    ///
+    /// Allocates and takes time in proportion to `n`.
+    pub fn over(env: S::Env, alloc: Global, n: usize) -> Result<Self, NewFault>
+        ensures { MakesGroup n (IsNewGrowing S.made n POLL_LIMIT) result }
+    {
+        Self::over_limit(env, alloc, n, POLL_LIMIT)
+    }
+
+    /// As `over`; one poll takes at most `limit` ready slots from each group, also from groups that are made later.
+    pub fn over_limit(env: S::Env, alloc: Global, n: usize, limit: usize) -> Result<Self, NewFault>
+        requires { 1 ≤ limit }
+        ensures { MakesGroup n (IsNewGrowing S.made n limit) result }
+    {
+        let mut groups = Self::without_groups(env, alloc, limit);
+        if n > 0 {
+            groups.add_group(n)?;
+        }
+        Ok(groups)
+    }
 
     /// Polls each group at most once, in turn, until one returns an output; `rule` says how one held value is polled.
     ///
@@ -440,14 +440,16 @@ impl<F: Drop, S: NewSource> FuturesUnordered<F, S> {
     }
 }
 
-impl<F: Drop> FuturesUnordered<F, SharedReady> {
+impl<F: Drop, K> GrowingSet<F, SharedReady, K> {
     /// Makes an empty set without a group, whose values are woken from any thread. Does not allocate.
     pub fn new(alloc: Global) -> Self
         ensures { result ≡ no_groups POLL_LIMIT }
     {
         Self::without_groups((), alloc, POLL_LIMIT)
     }
+}
 
+impl<F: Drop> FuturesUnordered<F, SharedReady> {
     /// Makes an empty set with one group of `n` slots, or with none if `n` is 0. Its values are woken from any thread.
     /// It is `over` with shared sources, and fails as `over` does.
     pub fn with_capacity(alloc: Global, n: usize) -> Result<Self, NewFault>

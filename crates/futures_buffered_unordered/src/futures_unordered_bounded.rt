@@ -24,26 +24,36 @@ use futures_buffered_core::ready_shared::SharedReady;
 use futures_buffered_core::ready_source::{NewSource, ReadySource};
 use futures_buffered_core::slot_map::PinSlotMap;
 use std::alloc::Global;
-use std::marker::Model;
+use std::marker::{Model, PhantomData};
 
 /// How many ready slots one poll takes from the source, at most, if the caller chose no other limit.
 pub const POLL_LIMIT: usize = 61;
 
 const _: () = prove!(POLL_LIMIT == 61);
 
-/// Futures in slots, over a source that returns the slots to poll.
+/// The kind of a set of futures: an output ends its future.
+pub struct OfFutures;
+
+/// The kind of a set of streams, a merge: an item leaves its stream where it is.
+pub struct OfStreams;
+
+/// Futures or streams in slots, over a source that returns the slots to poll. The kind `K` says which.
 ///
 /// A contract sees the content of each slot, the free slots, the content of the source, and the limit of ready slots
 /// for one poll. Once the set is made, no call except `make_sibling` allocates, and no call waits for another thread. A
-/// push, and calls that return how many futures are held, take the same time at any capacity.
+/// push, and calls that return how many values are held, take the same time at any capacity.
 #[derive(Drop)]
-pub struct FuturesUnorderedBounded<F: Drop, S: ReadySource = SharedReady> {
+pub struct BoundedSet<F: Drop, S: ReadySource, K> {
     slots: PinSlotMap<F>,
     source: S,
     limit: usize,
+    kind: PhantomData<K>,
 }
 
-impl<F: Drop, S: ReadySource> Model for FuturesUnorderedBounded<F, S> {
+/// As many futures as the set has slots.
+pub type FuturesUnorderedBounded<F, S = SharedReady> = BoundedSet<F, S, OfFutures>;
+
+impl<F: Drop, S: ReadySource, K> Model for BoundedSet<F, S, K> {
     ghost use Rattle.futures_buffered_unordered.specs.FuturesUnorderedBounded.{Bounded, bounded_code};
 
     ghost Value = { Bounded F S };
@@ -58,7 +68,7 @@ impl<F: Drop, S: ReadySource> Model for FuturesUnorderedBounded<F, S> {
     ghost invariant = { λ s. (S.slots s.source ≡ slot_count s.slots) × (1 ≤ s.limit) };
 }
 
-impl<F: Drop, S: ReadySource> FuturesUnorderedBounded<F, S> {
+impl<F: Drop, S: ReadySource, K> BoundedSet<F, S, K> {
     /// Makes an empty set over this source, with as many slots as the source has.
     ///
     /// If it fails, drops the source. Allocates and takes time in proportion to the number of slots.
@@ -76,15 +86,16 @@ impl<F: Drop, S: ReadySource> FuturesUnorderedBounded<F, S> {
             ≡ record { slots = no_slots (S.slots source); source = source; limit = limit }) result }
     {
         let slots = PinSlotMap::new(alloc, source.capacity())?;
-        Ok(FuturesUnorderedBounded {
+        Ok(BoundedSet {
             slots,
             source,
             limit,
+            kind: PhantomData,
         })
     }
 }
 
-impl<F: Drop, S: NewSource> FuturesUnorderedBounded<F, S> {
+impl<F: Drop, S: NewSource, K> BoundedSet<F, S, K> {
     /// Makes an empty set of `cap` slots over a source made for it; one poll takes at most `limit` ready slots.
     ///
     /// Fails as `with_source` does. Allocates and takes time in proportion to `cap`. A contract says of the source what
@@ -113,10 +124,11 @@ impl<F: Drop, S: NewSource> FuturesUnorderedBounded<F, S> {
     {
         let source = self.source.make_sibling(alloc, cap)?;
         let slots = PinSlotMap::new(alloc, cap)?;
-        Ok(FuturesUnorderedBounded {
+        Ok(BoundedSet {
             slots,
             source,
             limit: self.limit,
+            kind: PhantomData,
         })
     }
 
@@ -150,23 +162,24 @@ impl<F: Drop, S: NewSource> FuturesUnorderedBounded<F, S> {
     {
         let slots = PinSlotMap::from_iter(alloc, iter)?;
         let source = S::make_marked(env, alloc, slots.capacity())?;
-        Ok(FuturesUnorderedBounded {
+        Ok(BoundedSet {
             slots,
             source,
             limit,
+            kind: PhantomData,
         })
     }
 }
 
-impl<F: Drop, S: ReadySource> FuturesUnorderedBounded<F, S> {
-    /// The number of futures in the set.
+impl<F: Drop, S: ReadySource, K> BoundedSet<F, S, K> {
+    /// The number of values in the set.
     pub fn len(&self) -> usize
         ensures { result ≡ held_count self.now.slots }
     {
         self.slots.len()
     }
 
-    /// Whether the set holds no future.
+    /// Whether the set holds no value.
     pub fn is_empty(&self) -> bool
         ensures { IsTrue result ↔ (held_count self.now.slots ≡ 0) }
     {
@@ -235,7 +248,7 @@ impl<F: Drop, S: ReadySource> FuturesUnorderedBounded<F, S> {
         Ok(())
     }
 
-    /// Marks a slot by hand, whether or not it holds a future. Takes as long as a mark of the source, and does not wake
+    /// Marks a slot by hand, whether or not it holds a value. Takes as long as a mark of the source, and does not wake
     /// the task.
     pub fn mark_slot(&mut self, i: usize) -> Woke
         requires { i < slot_count self.old.slots }
@@ -309,19 +322,21 @@ impl<F: Drop, S: ReadySource> FuturesUnorderedBounded<F, S> {
         self.source.let_all_go();
     }
 
-    /// Drops each future, and what the source keeps for the futures. Each slot is free then, and slot 0 is the first to
+    /// Drops each value, and what the source keeps for the values. Each slot is free then, and slot 0 is the first to
     /// be used again.
     ///
     /// A slot that was marked stays marked. So a later poll may take it, and polls what it holds by then. Does not
     /// allocate. Takes time in proportion to the capacity, apart from the drops. The call itself does not wake the
-    /// task; a future that it drops may.
+    /// task; a value that it drops may.
     pub fn clear(&mut self)
         ensures { self.new ≡ emptied self.old }
     {
         self.slots.clear();
         self.let_source_go();
     }
+}
 
+impl<F: Drop, S: ReadySource> FuturesUnorderedBounded<F, S> {
     /// Polls the set once; `rule` says how one held value is polled.
     ///
     /// Returns `Ready(None)` if the set is empty, without a call of the source. Otherwise takes ready slots from the
@@ -393,7 +408,9 @@ impl<F: Drop> FuturesUnorderedBounded<F, SharedReady> {
     {
         Self::with_new_source(&(), alloc, cap, limit)
     }
+}
 
+impl<F: Drop, K> BoundedSet<F, SharedReady, K> {
     /// Makes a set without a free slot: slot k holds item k, and each slot is marked, in this order. The values are
     /// woken from any thread. It is `over` with a shared source, and fails as `over` does.
     pub fn from_iter<I: IntoIterator<Item = F>>(alloc: Global, iter: I) -> Result<Self, NewFault>

@@ -1,5 +1,0 @@
-use Rattle.futures_buffered_merges.proofs.MergeBoundedPushesLemmas.{keeps_order_with_pushes}
-use Rattle.futures_buffered_merges.proofs.merge_bounded.polls_and_pushes_keep_order.Goals as goal
-
-pub returns : goal.returns
-returns g c = keeps_order_with_pushes g.St.SlotStream.polled g.S.ReadySource.steps g.S.ReadySource.marks

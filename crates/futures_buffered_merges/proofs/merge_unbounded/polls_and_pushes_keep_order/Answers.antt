@@ -1,5 +1,0 @@
-use Rattle.futures_buffered_merges.proofs.MergeUnboundedPushesLemmas.{keeps_order_in_groups_with_pushes}
-use Rattle.futures_buffered_merges.proofs.merge_unbounded.polls_and_pushes_keep_order.Goals as goal
-
-pub returns : goal.returns
-returns g c = keeps_order_in_groups_with_pushes g.St.SlotStream.polled g.S.ReadySource.steps g.S.ReadySource.marks g.S.NewSource.made

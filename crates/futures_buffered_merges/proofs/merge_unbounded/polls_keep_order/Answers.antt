@@ -1,5 +1,0 @@
-use Rattle.futures_buffered_merges.proofs.MergeUnboundedGaveLemmas.{keeps_order_in_groups}
-use Rattle.futures_buffered_merges.proofs.merge_unbounded.polls_keep_order.Goals as goal
-
-pub returns : goal.returns
-returns g c = keeps_order_in_groups g.St.SlotStream.polled g.S.ReadySource.steps g.S.ReadySource.marks

@@ -1,0 +1,158 @@
+-- What the streams of a merge give over many polls.
+use Rattle.std.proofs.Common.{◌≡◌, ◌≢◌, ◌⊎◌, ℕ, ◌==◌, ◌<◌, ◌≤◌, cond, is_some, List, [], ◌∷◌, ◌++◌, length, Option, Some, None, MatchOption, IfSome, refl, sym, ap, subst, inl, inr, arith, ◌∙◌}
+use Rattle.std.specs.List.{FoldsTo}
+use Rattle.std.proofs.lemmas.Bool.{cases_eq, cases_lt, eq-eqb, ne_eqb}
+use Rattle.std.proofs.lemmas.List.{get_or-set_other, get_or_past}
+use Rattle.std.proofs.lemmas.List.Elements.{filter_map-append}
+use Rattle.std.proofs.lemmas.List.Sums.{get_or-le-sum_by}
+use Rattle.futures.specs.Poll.{IfReady, OnPending}
+use Rattle.futures.specs.Runs.{After, Within, seconds}
+use Rattle.futures.specs.declared.task.Poll.{Poll}
+use Rattle.futures.specs.declared.task.Poll.TheVariants.{Ready, Pending}
+use Rattle.futures_buffered_core.specs.SlotMap.{Slots, value_in, held_count, with_value, with_slot_freed}
+use Rattle.futures_buffered_table.specs.declared.answer.Woke.{Woke}
+use Rattle.futures_buffered_core.specs.ReadySource.{SourceSteps}
+use Rattle.futures_buffered_unordered.specs.Held.{Passes}
+use Rattle.futures_buffered_unordered.specs.FuturesUnorderedBounded.{Bounded}
+use Rattle.futures_buffered_unordered.proofs.HeldLemmas.{value_in-with_value}
+use Rattle.futures_buffered_unordered.proofs.HeldGivesLemmas.{value_in-with_slot_freed, value_in-with_slot_freed_other}
+use Rattle.futures_buffered_unordered.specs.SlotStream.{items_in, Gave}
+use Rattle.futures_buffered_unordered.specs.Merging.{CountEnds, MergeGives}
+use Rattle.futures_buffered_unordered.specs.MergeBounded.{items_at, StreamsGave, ComesFromStreams}
+use Rattle.futures_buffered_unordered.proofs.SlotStreamLemmas.{gave_none, gave_pending, gave_item, became_none, became_on}
+
+items_here : {A : Type 0} (i : ℕ) (x : A) → items_at i ((i, x) ∷ []) ≡ x ∷ []
+items_here i x = rw (eq-eqb i i refl) refl
+
+items_elsewhere : {A : Type 0} (i j : ℕ) (x : A) → j ≢ i → items_at j ((i, x) ∷ []) ≡ []
+items_elsewhere i j x other = rw (ne_eqb i j (λ same. other (sym same))) refl
+
+-- where none is held, no slot holds one
+pub none_held : {F : Type 0} (m : Slots F) → held_count m ≡ 0 → (j : ℕ) → value_in m j ≡ None
+none_held {F} m none j = by_place (cases_lt j (length m.places))
+  where
+    by_value : (o : Option F) → o ≡ value_in m j → ◌≡◌ {A = ℕ} (cond (is_some o) 1 0) 0 → value_in m j ≡ None
+    by_value None e zero_here = sym e
+    by_value (Some f) e zero_here = absurd (omega (arith, zero_here))
+
+    by_place : (j < length m.places) ⊎ (length m.places ≤ j) → value_in m j ≡ None
+    by_place (inr past) = get_or_past m.places j None past
+    by_place (inl within) = by_value (value_in m j) refl (omega (arith, none, get_or-le-sum_by (λ (o : Option F). cond (is_some o) 1 0) m.places j None within))
+
+module _ {F A : Type 0} (polled : ℕ → F → Poll (Option A) → F → Type 0) where
+  pub streams_none : (m : Slots F) → StreamsGave polled m [] m
+  streams_none m j = became_none (polled j) (value_in m j)
+
+  -- what was given first, and then what was given later
+  pub streams_on : (old mid new : Slots F) (first rest : List (ℕ × A)) → StreamsGave polled old first mid → StreamsGave polled mid rest new → StreamsGave polled old (first ++ rest) new
+  streams_on old mid new first rest a b j =
+      rw (filter_map-append (λ (p : ℕ × A). cond (p.0 == j) (Some p.1) None) first rest) (became_on (polled j) (value_in old j) (value_in mid j) (value_in new j) (items_at j first) (items_at j rest) (a j) (b j))
+
+  -- the stream of slot i was polled, and the others were not
+  at_slot : (m : Slots F) (i : ℕ) (f left : F) (given : List (ℕ × A)) → value_in m i ≡ Some f → ((j : ℕ) → j ≢ i → items_at j given ≡ []) → Gave (polled i) f (items_at i given) left → StreamsGave polled m given (with_value m i left)
+  at_slot m i f left given held others gave j =
+      elim (cases_eq j i) [
+        | inl same ↦ rw (same, held, value_in-with_value m i f left (sym held)) gave
+        | inr other ↦ rw (others j other, get_or-set_other m.places i j (Some left) None other) (became_none (polled j) (value_in m j))
+      ]
+
+  passes_gave : (m new : Slots F) (i : ℕ) → Passes polled m i new → StreamsGave polled m [] new
+  passes_gave m new i = by_value (value_in m i) refl
+    where
+      by_value : (o : Option F) → value_in m i ≡ o → MatchOption o (new ≡ m) (λ f. (left : F) × polled i f Pending left × (new ≡ with_value m i left)) → StreamsGave polled m [] new
+      by_value None e h = rw h (streams_none m)
+      by_value (Some f) e h = rw h.2 (at_slot m i f h.0 [] e (λ j other. refl) (gave_pending (polled i) f h.0 h.1))
+
+  passed_gave : (names : List ℕ) (m new : Slots F) → FoldsTo (Passes polled) m names new → StreamsGave polled m [] new
+  passed_gave [] m new h = subst (StreamsGave polled m []) h (streams_none m)
+  passed_gave (i ∷ names) m new h = streams_on m h.0 new [] [] (passes_gave m h.0 i h.1) (passed_gave names h.0 new h.2)
+
+  -- the stream of slot i ended, and the slot was emptied
+  ended_gave : (m : Slots F) (i : ℕ) (f left : F) → value_in m i ≡ Some f → polled i f (Ready None) left → StreamsGave polled m [] (with_slot_freed (with_value m i left) i)
+  ended_gave m i f left held ended j =
+      elim (cases_eq j i) [
+        | inl same ↦ rw (same, held, value_in-with_slot_freed (with_value m i left) i) (f, left, gave_none (polled i) f, ended)
+        | inr other ↦ rw (value_in-with_slot_freed_other (with_value m i left) i j other, get_or-set_other m.places i j (Some left) None other) (became_none (polled j) (value_in m j))
+      ]
+
+  -- where nothing was given, what may come later might come before
+  pub within_of : (old new : Slots F) → StreamsGave polled old [] new → Within (ComesFromStreams polled old) (ComesFromStreams polled new)
+  within_of old new gave items (Some y) run = (run.0, run.1, run.2, run.3, streams_on old new run.2 [] (run.0 ++ (run.1, y) ∷ []) gave run.4)
+  within_of old new gave items None run = (run.0, run.1, run.2, run.3, streams_on old new run.1 [] run.0 gave run.4)
+
+  module _ {S : Type 0} (steps : SourceSteps S) (marks : S → ℕ → Woke → S → Type 0) where
+    count_gave : (old new : Bounded F S) (i : ℕ) → CountEnds polled steps marks old i new → StreamsGave polled old.slots [] new.slots
+    count_gave old new i h =
+        let asks = h.1.1 in
+        let at_end = asks.4 in
+        let freed = ap (λ (b : Bounded F S). b.slots) h.1.2 ∙ ap (λ (m : Slots F). with_slot_freed m i) at_end.now_holds in
+        rw freed (streams_on old.slots asks.2 (with_slot_freed (with_value asks.2 i at_end.left) i) [] [] (passed_gave asks.0 old.slots asks.2 asks.3.passes) (ended_gave asks.2 i at_end.value at_end.left at_end.held at_end.gave))
+
+    counts_gave : (ended : List ℕ) (old new : Bounded F S) → FoldsTo (CountEnds polled steps marks) old ended new → StreamsGave polled old.slots [] new.slots
+    counts_gave [] old new h = subst (λ (b : Bounded F S). StreamsGave polled old.slots [] b.slots) h (streams_none old.slots)
+    counts_gave (i ∷ ended) old new h = streams_on old.slots h.0.slots new.slots [] [] (count_gave old h.0 i h.1) (counts_gave ended h.0 new h.2)
+
+    -- one poll
+    pub item_gave : (old new : Bounded F S) (x : A) → MergeGives polled steps marks old (Ready (Some x)) new → (i : ℕ) × StreamsGave polled old.slots ((i, x) ∷ []) new.slots
+    item_gave old new x (stopped, h) =
+        let last = h.last_count.1 in
+        let i = last.0 in
+        let asks = last.2 in
+        let gives = asks.4 in
+        let stays = ap (λ (b : Bounded F S). b.slots) last.4 ∙ gives.now_holds in
+        let here = items_here i x in
+        let passed = streams_on old.slots h.before.slots asks.2 [] [] (counts_gave h.ended old h.before h.counts) (passed_gave asks.0 h.before.slots asks.2 asks.3.passes) in (
+          i,
+          rw stays (streams_on old.slots asks.2 (with_value asks.2 i gives.left) [] ((i, x) ∷ []) passed (at_slot asks.2 i gives.value gives.left ((i, x) ∷ []) gives.held (λ j other. items_elsewhere i j x other) (rw here (gave_item (polled i) gives.value gives.left x gives.gave)))),
+        )
+
+    pub pending_gave : (old new : Bounded F S) → MergeGives polled steps marks old Pending new → StreamsGave polled old.slots [] new.slots
+    pending_gave old new (stopped, h) =
+        let asks = h.last_count.1 in
+        streams_on old.slots h.before.slots new.slots [] [] (counts_gave h.ended old h.before h.counts) (passed_gave asks.0 h.before.slots new.slots asks.4.passes)
+
+    pub end_gave : (old new : Bounded F S) → MergeGives polled steps marks old (Ready None) new → ((j : ℕ) → value_in new.slots j ≡ None) × StreamsGave polled old.slots [] new.slots
+    end_gave old new (stopped, h) =
+        let same = h.last_count.1 in (
+          rw same (none_held h.before.slots h.last_count.0),
+          rw same (counts_gave h.ended old h.before h.counts),
+        )
+
+    pub value_of : (old new : Bounded F S) (answer : Poll (Option A)) → MergeGives polled steps marks old answer new → IfReady answer (ComesFromStreams polled old.slots [])
+    value_of old new (Ready (Some x)) h = let gave = item_gave old new x h in ([], gave.0, new.slots, refl, gave.1)
+    value_of old new (Ready None) h = let gave = end_gave old new h in ([], new.slots, refl, gave.0, gave.1)
+    value_of old new Pending h = tt
+
+    pub rest_of : (old new : Bounded F S) (answer : Poll (Option A)) → MergeGives polled steps marks old answer new → IfReady answer (λ o. IfSome o (λ x. After (ComesFromStreams polled old.slots) x (ComesFromStreams polled new.slots)))
+    rest_of old new (Ready (Some x)) h = after
+      where
+        after : After (ComesFromStreams polled old.slots) x (ComesFromStreams polled new.slots)
+        after items (Some y) run =
+            let gave = item_gave old new x h in
+            ((gave.0, x) ∷ run.0, run.1, run.2, ap (λ (l : List A). x ∷ l) run.3, streams_on old.slots new.slots run.2 ((gave.0, x) ∷ []) (run.0 ++ (run.1, y) ∷ []) gave.1 run.4)
+        after items None run =
+            let gave = item_gave old new x h in
+            ((gave.0, x) ∷ run.0, run.1, ap (λ (l : List A). x ∷ l) run.2, run.3, streams_on old.slots new.slots run.1 ((gave.0, x) ∷ []) run.0 gave.1 run.4)
+    rest_of old new (Ready None) h = tt
+    rest_of old new Pending h = tt
+
+    pub same_of : (old new : Bounded F S) (answer : Poll (Option A)) → MergeGives polled steps marks old answer new → OnPending answer (Within (ComesFromStreams polled old.slots) (ComesFromStreams polled new.slots))
+    same_of old new (Ready o) h = tt
+    same_of old new Pending h = within_of old.slots new.slots (pending_gave old new h)
+
+    -- a poll that ended the last stream adds nothing to what may come
+    pub ended_of : (old new : Bounded F S) → MergeGives polled steps marks old (Ready None) new → Within (ComesFromStreams polled old.slots) (ComesFromStreams polled new.slots)
+    ended_of old new h = within_of old.slots new.slots (end_gave old new h).1
+
+    -- many polls
+    one_first : (old mid new : Bounded F S) (answer : Poll (Option A)) (answers : List (Poll (Option A))) → MergeGives polled steps marks old answer mid → (given : List (ℕ × A)) × (items_in answers ≡ seconds given) × StreamsGave polled mid.slots given new.slots
+        → (given : List (ℕ × A)) × (items_in (answer ∷ answers) ≡ seconds given) × StreamsGave polled old.slots given new.slots
+    one_first old mid new (Ready (Some x)) answers h rest =
+        let gave = item_gave old mid x h in
+        ((gave.0, x) ∷ rest.0, ap (λ (l : List A). x ∷ l) rest.1, streams_on old.slots mid.slots new.slots ((gave.0, x) ∷ []) rest.0 gave.1 rest.2)
+    one_first old mid new (Ready None) answers h rest = (rest.0, rest.1, streams_on old.slots mid.slots new.slots [] rest.0 (end_gave old mid h).1 rest.2)
+    one_first old mid new Pending answers h rest = (rest.0, rest.1, streams_on old.slots mid.slots new.slots [] rest.0 (pending_gave old mid h) rest.2)
+
+    pub keeps_order : (old new : Bounded F S) (answers : List (Poll (Option A))) → FoldsTo (MergeGives polled steps marks) old answers new → (given : List (ℕ × A)) × (items_in answers ≡ seconds given) × StreamsGave polled old.slots given new.slots
+    keeps_order old new [] h = ([], refl, subst (λ (b : Bounded F S). StreamsGave polled old.slots [] b.slots) h (streams_none old.slots))
+    keeps_order old new (answer ∷ answers) h = one_first old h.0 new answer answers h.1 (keeps_order h.0 new answers h.2)

@@ -1,0 +1,13 @@
+use Rattle.std.proofs.Common.{◌≡◌, ◌+◌, ◌-◌, length, ap, arith}
+use Rattle.futures_buffered_core.specs.SlotMap.{slot_count}
+use Rattle.futures_buffered_unordered.specs.FuturesUnorderedBounded.{Bounded, held_in}
+use Rattle.futures_buffered_unordered.proofs.FuturesUnorderedLemmas.{spare_last}
+use Rattle.futures_buffered_unordered.proofs.futures_unordered.GrowingSet.spare_places.Goals as goal
+
+pub returns-clause-value : goal.returns-clause-value
+returns-clause-value g c =
+    let last : c.len-groups.result - 1 + 1 ≡ length c.self.inside.groups.items = omega (arith, c.if-groups-eq0.false, c.len-groups.ensures) in
+    let at_last = spare_last c.self.inside.groups.items (c.len-groups.result - 1) c.index-last.result.now last in
+    let held = ap (λ (b : Bounded g.row.F.Denot g.row.S.Denot). held_in b) c.index-last.ensures in
+    let slots = ap (λ (b : Bounded g.row.F.Denot g.row.S.Denot). slot_count b.slots) c.index-last.ensures in
+    rw (← c.self.view_is) (omega (arith, c.capacity.ensures.value, c.len.ensures, at_last, held, slots))

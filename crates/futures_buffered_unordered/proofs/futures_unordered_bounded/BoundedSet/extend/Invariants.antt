@@ -1,0 +1,11 @@
+use Rattle.std.specs.List.{FoldsTo}
+use Rattle.std.specs.Prelude.{◌≡◌}
+use Rattle.futures_buffered_core.specs.SlotMap.{slot_count}
+use Rattle.futures_buffered_unordered.specs.FuturesUnorderedBounded.{Pushes}
+use Rattle.futures_buffered_unordered.proofs.futures_unordered_bounded.BoundedSet.extend.Given as goal
+
+abbrev pub invariant-loop-item : goal.invariant-loop-item
+invariant-loop-item g l = (goal.iterator-loop-item g).can_next l.item-iterator
+    × (goal.iterator-loop-item g).is_finite l.item-iterator
+    × FoldsTo (Pushes g.S.ReadySource.marks) l.fn.self l.yielded l.self
+    × (slot_count l.self.slots ≡ slot_count l.fn.self.slots)

@@ -1,5 +1,0 @@
-use Rattle.std.proofs.Common.{rules}
-use Rattle.futures_buffered_unordered.proofs.futures_unordered_bounded.FuturesUnorderedBounded.empty_slot.Goals as goal
-
-pub returns-clause-emptied : goal.returns-clause-emptied
-returns-clause-emptied g c = search rules

@@ -1,5 +1,0 @@
-use Rattle.std.proofs.Common.{rules}
-use Rattle.futures_buffered_unordered.proofs.futures_unordered_bounded.FuturesUnorderedBounded.with_source.Goals as goal
-
-pub returns : goal.returns
-returns g c = search rules steps 200000

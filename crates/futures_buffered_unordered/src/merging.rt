@@ -1,0 +1,76 @@
+//! One poll of the streams that a bounded merge holds.
+ghost use Rattle.std.specs.Prelude.{◌<◌};
+ghost use Rattle.futures_buffered_unordered.specs.FuturesUnorderedBounded.{held_in};
+ghost use Rattle.futures_buffered_unordered.specs.PollsBounded.{RegistersAndTakes};
+ghost use Rattle.futures_buffered_unordered.specs.Merging.{CanAsk, CountPolls, PollsMergeBounded, each_stream};
+ghost use Rattle.futures_buffered_unordered.specs.Merging.{unless_registered};
+
+use crate::merge_bounded::MergeBounded;
+use crate::slot_stream::{PollStream, SlotStream};
+use futures::task::{Context, Poll};
+use futures_buffered_core::ready_source::ReadySource;
+
+// Polls the streams of ready slots, in one round, until one returns an item or ends. Registers the task first if it is
+// not registered yet.
+fn ask_streams<St: SlotStream<S::Waker>, S: ReadySource>(
+    set: &mut MergeBounded<St, S>,
+    cx: &mut Context<'_>,
+    is_registered: bool,
+) -> Poll<(usize, Option<St::Item>)>
+    requires { CanAsk St.SlotStream S.ReadySource set.old cx.old is_registered }
+    ensures { RegistersAndTakes (each_stream St.SlotStream) (unless_registered is_registered S.ReadySource)
+        set.old result set.new cx.old cx.new }
+{
+    if is_registered {
+        set.poll_first_registered(&PollStream, cx)
+    } else {
+        set.poll_first(&PollStream, cx)
+    }
+}
+
+// Polls one round. Returns an item, whose stream stays and whose slot is marked; or `None` for the end of a stream,
+// which is dropped; or `Pending`.
+fn poll_count<St: SlotStream<S::Waker>, S: ReadySource>(
+    set: &mut MergeBounded<St, S>,
+    cx: &mut Context<'_>,
+    is_registered: bool,
+) -> Poll<Option<St::Item>>
+    requires { CanAsk St.SlotStream S.ReadySource set.old cx.old is_registered }
+    ensures { 0 < held_in set.old
+        → CountPolls St.SlotStream (unless_registered is_registered S.ReadySource)
+        set.old result set.new cx.old cx.new }
+{
+    match ask_streams(set, cx, is_registered) {
+        Poll::Ready((i, Some(item))) => {
+            let _woke = set.mark_slot(i);
+            Poll::Ready(Some(item))
+        }
+        Poll::Ready((i, None)) => {
+            set.empty_slot(i);
+            Poll::Ready(None)
+        }
+        Poll::Pending => Poll::Pending,
+    }
+}
+
+// Polls the merge once. Each round registers the task first, unless the task is registered for another group of the
+// merge. A further registration would hold the place of its waker, and a wake of a slot of that group would find the
+// place taken.
+pub(crate) fn poll_streams<St: SlotStream<S::Waker>, S: ReadySource>(
+    set: &mut MergeBounded<St, S>,
+    cx: &mut Context<'_>,
+    is_registered: bool,
+) -> Poll<Option<St::Item>>
+    requires { CanAsk St.SlotStream S.ReadySource set.old cx.old is_registered }
+    ensures { PollsMergeBounded St.SlotStream (unless_registered is_registered S.ReadySource)
+        set.old result set.new cx.old cx.new }
+{
+    'counts: while !set.is_empty() {
+        match poll_count(set, cx, is_registered) {
+            Poll::Ready(Some(item)) => return Poll::Ready(Some(item)),
+            Poll::Ready(None) => {}
+            Poll::Pending => return Poll::Pending,
+        }
+    }
+    Poll::Ready(None)
+}
