@@ -20,11 +20,12 @@ use futures_buffered_unordered::futures_unordered_bounded::POLL_LIMIT;
 use std::alloc::Global;
 
 /// Adaptors that keep some futures of a stream in progress.
+///
+/// No method polls anything. If a call fails, it drops the stream, and a closure too. Each takes time and allocates in
+/// proportion to the number of futures at a time.
 pub trait BufferedStreamExt: Stream + Sized {
     /// Returns a stream of the outputs of this stream's futures, in the order of this stream. It holds at most `n`
-    /// futures at a time: in progress, or done with an output that waits for its turn. The call polls nothing.
-    ///
-    /// If the call fails, drops this stream. Takes time and allocates in proportion to `n`.
+    /// futures at a time: in progress, or done with an output that waits for its turn.
     final fn buffered_ordered(
         self,
         alloc: Global,
@@ -39,9 +40,7 @@ pub trait BufferedStreamExt: Stream + Sized {
     }
 
     /// Returns a stream of the outputs of this stream's futures, as they finish, with at most `n` in progress at a
-    /// time. The call polls nothing.
-    ///
-    /// If the call fails, drops this stream. Takes time and allocates in proportion to `n`.
+    /// time.
     final fn buffered_unordered(
         self,
         alloc: Global,
@@ -56,12 +55,10 @@ pub trait BufferedStreamExt: Stream + Sized {
     }
 
     /// Returns a future that calls `f` with each item of this stream, once and in order. It runs the futures that `f`
-    /// makes, at most `limit` at a time. The call polls nothing.
+    /// makes, at most `limit` at a time.
     ///
     /// `futures::StreamExt` has a method of this name too. If both traits are in scope, a caller calls this one by its
     /// path: `BufferedStreamExt::for_each_concurrent(stream, alloc, limit, f)`.
-    ///
-    /// If the call fails, drops stream and closure. Takes time and allocates in proportion to `limit`.
     final fn for_each_concurrent<Fut, F>(
         self,
         alloc: Global,

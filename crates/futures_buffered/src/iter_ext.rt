@@ -21,11 +21,11 @@ use futures_buffered_unordered::futures_unordered_bounded::{FuturesUnorderedBoun
 use std::alloc::Global;
 
 /// Sets, queues, joins and merges of what an iterator returns, if the iterator ends.
+///
+/// Each method takes time and allocates in proportion to the number of items.
 pub trait IterExt: IntoIterator + Sized {
     /// Makes a set of these futures without a free slot, whose outputs come as they finish. The call is
     /// `FuturesUnorderedBounded::from_iter`, and fails as that does. A later push can use a slot that was freed.
-    ///
-    /// Takes time and allocates in proportion to the number of futures.
     final fn into_unordered_stream(
         self,
         alloc: Global,
@@ -41,8 +41,6 @@ pub trait IterExt: IntoIterator + Sized {
 
     /// Makes a growing set of these futures, whose outputs come as they finish. The call is
     /// `FuturesUnordered::from_iter`, and fails as that does.
-    ///
-    /// Takes time and allocates in proportion to the number of futures.
     final fn into_unordered_stream_unbounded(
         self,
         alloc: Global,
@@ -57,8 +55,6 @@ pub trait IterExt: IntoIterator + Sized {
 
     /// Makes a full queue of these futures, whose outputs come in their order. The call is
     /// `FuturesOrderedBounded::from_iter`, and fails as that does. A later push can use a slot that was freed.
-    ///
-    /// Takes time and allocates in proportion to the number of futures.
     final fn into_ordered_stream(
         self,
         alloc: Global,
@@ -74,8 +70,6 @@ pub trait IterExt: IntoIterator + Sized {
 
     /// Makes a growing queue of these futures, whose outputs come in their order. The call is
     /// `FuturesOrdered::from_iter`, and fails as that does.
-    ///
-    /// Takes time and allocates in proportion to the number of futures.
     final fn into_ordered_stream_unbounded(
         self,
         alloc: Global,
@@ -90,8 +84,6 @@ pub trait IterExt: IntoIterator + Sized {
 
     /// Makes a join of these futures, which is ready with all outputs, each at its future's place. The call is the
     /// function `join_all`, and fails as that does.
-    ///
-    /// Takes time and allocates in proportion to the number of futures.
     final fn join_all(self, alloc: Global) -> Result<JoinAll<Self::Item, SharedReady>, NewFault>
     where
         Self::Item: SlotFuture<SharedWaker, Output: Drop>,
@@ -104,8 +96,6 @@ pub trait IterExt: IntoIterator + Sized {
 
     /// Makes a join of these futures, which may fail. The join is ready with all outputs, each at its future's place,
     /// or with the first error that comes. The call is the function `try_join_all`, and fails as that does.
-    ///
-    /// Takes time and allocates in proportion to the number of futures.
     final fn try_join_all<T, E>(
         self,
         alloc: Global,
@@ -122,8 +112,6 @@ pub trait IterExt: IntoIterator + Sized {
 
     /// Makes a merge of these streams without a free slot. The call is `MergeBounded::from_iter`, and fails as that
     /// does. A stream that ends leaves its slot to a later push.
-    ///
-    /// Takes time and allocates in proportion to the number of streams.
     final fn merge(self, alloc: Global) -> Result<MergeBounded<Self::Item, SharedReady>, NewFault>
     where
         Self::Item: SlotStream<SharedWaker>,
@@ -135,8 +123,6 @@ pub trait IterExt: IntoIterator + Sized {
     }
 
     /// Makes a growing merge of these streams. The call is `MergeUnbounded::from_iter`, and fails as that does.
-    ///
-    /// Takes time and allocates in proportion to the number of streams.
     final fn merge_unbounded(
         self,
         alloc: Global,

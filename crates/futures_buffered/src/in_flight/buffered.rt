@@ -20,13 +20,13 @@ use futures_buffered_unordered::futures_unordered_bounded::POLL_LIMIT;
 use std::alloc::Global;
 
 /// Adaptors that keep some futures of a stream in progress.
+///
+/// No method polls anything. If a call fails, it drops the stream, and a closure too. Each takes time and allocates in
+/// proportion to the number of futures at a time. A poll allocates in the set of `futures` for each future. If that
+/// allocation fails, the future waits, and the poll wakes the task to try again.
 pub trait BufferedStreamExt: Stream + Sized {
     /// Returns a stream of the outputs of this stream's futures, in the order of this stream. It holds at most `n`
-    /// futures at a time: in progress, or done with an output that waits for its turn. The call polls nothing.
-    ///
-    /// If the call fails, drops this stream. Takes time and allocates in proportion to `n`. A poll allocates in the set
-    /// of `futures` for each future. If that allocation fails, the future waits, and the poll wakes the task to try
-    /// again.
+    /// futures at a time: in progress, or done with an output that waits for its turn.
     final fn buffered_ordered(
         self,
         alloc: Global,
@@ -43,9 +43,7 @@ pub trait BufferedStreamExt: Stream + Sized {
     }
 
     /// Returns a stream of the outputs of this stream's futures, as they finish, with at most `n` in progress at a
-    /// time. The call polls nothing.
-    ///
-    /// Fails as `buffered_ordered` does, and takes time and allocates as that does.
+    /// time.
     #[tactic(auto, using(crate::proofs::InFlightLemmas::new_can_poll))]
     final fn buffered_unordered(
         self,
@@ -63,12 +61,10 @@ pub trait BufferedStreamExt: Stream + Sized {
     }
 
     /// Returns a future that calls `f` with each item of this stream, once and in order. It runs the futures that `f`
-    /// makes, at most `limit` at a time. The call polls nothing.
+    /// makes, at most `limit` at a time.
     ///
     /// `futures::StreamExt` has a method of this name too. If both traits are in scope, a caller calls this one by its
     /// path: `BufferedStreamExt::for_each_concurrent(stream, alloc, limit, f)`.
-    ///
-    /// If the call fails, drops stream and closure. Takes time and allocates as `buffered_ordered` does.
     #[tactic(auto, using(crate::proofs::InFlightLemmas::new_can_poll))]
     final fn for_each_concurrent<Fut, F>(
         self,

@@ -17,11 +17,11 @@ use futures_buffered_core::ready_core::NewFault;
 use std::alloc::Global;
 
 /// Sets, queues, joins and merges of what an iterator returns, if the iterator ends.
+///
+/// Each method takes time and allocates in proportion to the number of items.
 pub trait IterExt: IntoIterator + Sized {
     /// Makes a set of these futures, whose outputs come as they finish. The call is
     /// `FuturesUnorderedBounded::from_iter`, and fails as that does. A later push can use a slot that was freed.
-    ///
-    /// Takes time and allocates in proportion to the number of futures.
     final fn into_unordered_stream(
         self,
         alloc: Global,
@@ -39,8 +39,6 @@ pub trait IterExt: IntoIterator + Sized {
 
     /// Makes a set of these futures, and of any number that are pushed later, whose outputs come as they finish. The
     /// call is `FuturesUnordered::from_iter`, and fails as that does.
-    ///
-    /// Takes time and allocates in proportion to the number of futures.
     final fn into_unordered_stream_unbounded(
         self,
         alloc: Global,
@@ -58,8 +56,6 @@ pub trait IterExt: IntoIterator + Sized {
 
     /// Makes a queue of these futures, whose outputs come in their order. The call is
     /// `FuturesOrderedBounded::from_iter`, and fails as that does.
-    ///
-    /// Takes time and allocates in proportion to the number of futures.
     final fn into_ordered_stream(
         self,
         alloc: Global,
@@ -77,8 +73,6 @@ pub trait IterExt: IntoIterator + Sized {
 
     /// Makes a queue of these futures, and of any number that are pushed later, whose outputs come in their order. The
     /// call is `FuturesOrdered::from_iter`, and fails as that does.
-    ///
-    /// Takes time and allocates in proportion to the number of futures.
     final fn into_ordered_stream_unbounded(
         self,
         alloc: Global,
@@ -96,8 +90,6 @@ pub trait IterExt: IntoIterator + Sized {
 
     /// Makes a join of these futures, which is ready with all outputs, each at its future's place. The call is the
     /// function `join_all`, and fails as that does.
-    ///
-    /// Takes time and allocates in proportion to the number of futures.
     final fn join_all(self, alloc: Global) -> Result<JoinAll<Self::Item>, NewFault>
     where
         Self::Item: Future<Output: Drop>,
@@ -111,8 +103,6 @@ pub trait IterExt: IntoIterator + Sized {
 
     /// Makes a join of these futures, which may fail. The join is ready with all outputs, each at its future's place,
     /// or with the first error that comes. The call is the function `try_join_all`, and fails as that does.
-    ///
-    /// Takes time and allocates in proportion to the number of futures.
     final fn try_join_all<T, E>(self, alloc: Global) -> Result<TryJoinAll<Self::Item>, NewFault>
     where
         Self::Item: Future<Output = Result<T, E>>,
@@ -128,8 +118,6 @@ pub trait IterExt: IntoIterator + Sized {
 
     /// Makes a merge of these streams, with room for as many as the iterator returned. The call is the function
     /// `merge`, and fails as that does.
-    ///
-    /// Takes time and allocates in proportion to the number of streams.
     final fn merge(self, alloc: Global) -> Result<MergeBounded<Self::Item>, NewFault>
     where
         Self::Item: Stream<Item: Drop>,
@@ -144,8 +132,6 @@ pub trait IterExt: IntoIterator + Sized {
 
     /// Makes a merge of these streams, and of any number that are pushed later. The call is the function
     /// `merge_unbounded`, and fails as that does.
-    ///
-    /// Takes time and allocates in proportion to the number of streams.
     final fn merge_unbounded(self, alloc: Global) -> Result<MergeUnbounded<Self::Item>, NewFault>
     where
         Self::Item: Stream<Item: Drop>,

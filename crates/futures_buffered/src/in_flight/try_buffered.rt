@@ -21,14 +21,14 @@ use futures_buffered_unordered::futures_unordered_bounded::POLL_LIMIT;
 use std::alloc::Global;
 
 /// Adaptors that keep some futures of a stream in progress, for a stream that returns errors also.
+///
+/// No method polls anything. If a call fails, it drops the stream, and a closure too. Each takes time and allocates in
+/// proportion to the number of futures at a time. A poll allocates in the set of `futures` for each future. If that
+/// allocation fails, the future waits, and the poll wakes the task to try again.
 pub trait BufferedTryStreamExt: Stream + Sized {
     /// Returns a stream of the outputs of this stream's futures, in the order of this stream. It holds at most `n`
     /// futures at a time: in progress, or done with an output that waits for its turn. A poll returns each error of
-    /// this stream as soon as it takes the error from it. The call polls nothing.
-    ///
-    /// If the call fails, drops this stream. Takes time and allocates in proportion to `n`. A poll allocates in the set
-    /// of `futures` for each future. If that allocation fails, the future waits, and the poll wakes the task to try
-    /// again.
+    /// this stream as soon as it takes the error from it.
     final fn try_buffered_ordered<F, T, E>(
         self,
         alloc: Global,
@@ -48,9 +48,7 @@ pub trait BufferedTryStreamExt: Stream + Sized {
     }
 
     /// Returns a stream of the outputs of this stream's futures, as they finish, with at most `n` in progress at a
-    /// time. A poll returns each error of this stream as soon as it takes the error from it. The call polls nothing.
-    ///
-    /// Fails as `try_buffered_ordered` does, and takes time and allocates as that does.
+    /// time. A poll returns each error of this stream as soon as it takes the error from it.
     #[tactic(auto, using(crate::proofs::InFlightLemmas::new_can_poll))]
     final fn try_buffered_unordered<F, T, E>(
         self,
@@ -71,13 +69,10 @@ pub trait BufferedTryStreamExt: Stream + Sized {
     }
 
     /// Returns a future that calls `f` with each `Ok` item of this stream, once and in order. It runs the futures that
-    /// `f` makes, at most `limit` at a time. It ends at the first error, of this stream or of a future. The call polls
-    /// nothing.
+    /// `f` makes, at most `limit` at a time. It ends at the first error, of this stream or of a future.
     ///
     /// `futures::TryStreamExt` has a method of this name too. If both traits are in scope, a caller calls this one by
     /// its path: `BufferedTryStreamExt::try_for_each_concurrent(stream, alloc, limit, f)`.
-    ///
-    /// If the call fails, drops stream and closure. Takes time and allocates as `try_buffered_ordered` does.
     #[tactic(auto, using(crate::proofs::InFlightLemmas::new_can_poll))]
     final fn try_for_each_concurrent<T, E, Fut, F>(
         self,
