@@ -9,8 +9,8 @@ use futures_buffered::buffered_ordered::OrderedQueue;
 use futures_buffered::for_each_concurrent::ForEachConcurrent;
 use futures_buffered_core::ready_shared::SharedReady;
 use futures_buffered_core::ready_source::SlotHandle;
-use futures_buffered_merges::merge_bounded::MergeBounded;
-use futures_buffered_merges::slot_stream::SlotStream;
+use futures_buffered_unordered::merge_bounded::MergeBounded;
+use futures_buffered_unordered::slot_stream::SlotStream;
 use std::alloc::Global;
 
 /// A stream of ready futures that does not end.

@@ -8,7 +8,7 @@ use futures::stream::{SelectAll, select_all};
 use futures::task::Context;
 use futures_buffered_core::ready_shared::SharedReady;
 use futures_buffered_held::spsc;
-use futures_buffered_merges::merge_bounded::MergeBounded;
+use futures_buffered_unordered::merge_bounded::MergeBounded;
 use futures_buffered::in_flight::{MergeBounded as KitMerge, merge};
 use std::alloc::Global;
 

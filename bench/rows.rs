@@ -21,7 +21,7 @@ use futures_buffered::in_flight::BufferedStreamExt;
 use futures_buffered::buffer::Buffer;
 use futures_buffered_core::ready_shared::SharedWaker;
 use futures_buffered_held::{oneshot, spsc};
-use futures_buffered_merges::merge_bounded::MergeBounded;
+use futures_buffered_unordered::merge_bounded::MergeBounded;
 use std::alloc::{AllocError, AllocGlobal};
 use std::io;
 use std::random::RandomSource;

@@ -5,7 +5,7 @@ use futures::task::Poll;
 use futures_buffered::SlotFuture;
 use futures_buffered_core::ready_shared::SharedWaker;
 use futures_buffered_core::ready_source::SlotWaker;
-use futures_buffered_merges::slot_stream::SlotStream;
+use futures_buffered_unordered::slot_stream::SlotStream;
 use std::alloc::{AllocError, Global};
 use std::sync::atomic::AtomicU64;
 use std::sync::atomic::Ordering::SeqCst;

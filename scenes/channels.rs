@@ -9,8 +9,8 @@ use futures::test::MockTask;
 use futures_buffered_core::ready_core::Taken;
 use futures_buffered_core::ready_shared::SharedReady;
 use futures_buffered_held::spsc::{Receiver, Sender, TrySendError, channel};
-use futures_buffered_merges::merge_bounded::MergeBounded;
-use futures_buffered_merges::slot_stream::SlotStream;
+use futures_buffered_unordered::merge_bounded::MergeBounded;
+use futures_buffered_unordered::slot_stream::SlotStream;
 use std::alloc::Global;
 use std::thread::{self, yield_now};
 

@@ -5,7 +5,7 @@ use crate::shared_world::SharedWorld;
 use crate::step::Action;
 use futures::task::Poll;
 use futures_buffered_core::ready_shared::SharedWaker;
-use futures_buffered_merges::slot_stream::SlotStream;
+use futures_buffered_unordered::slot_stream::SlotStream;
 use futures_buffered_unordered::slot_future::SlotFuture;
 
 /// A future or a stream that acts after a script.

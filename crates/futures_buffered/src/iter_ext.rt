@@ -13,7 +13,7 @@ ghost use Rattle.futures_buffered.specs.BufferedOrdered.{queue_slots};
 use futures_buffered_core::ready_core::NewFault;
 use futures_buffered_core::ready_shared::{SharedReady, SharedWaker};
 use futures_buffered_joins::{JoinAll, TryJoinAll};
-use futures_buffered_merges::{MergeBounded, MergeUnbounded, SlotStream};
+use futures_buffered_unordered::{MergeBounded, MergeUnbounded, SlotStream};
 use futures_buffered_ordered::{FuturesOrdered, FuturesOrderedBounded};
 use futures_buffered_unordered::SlotFuture;
 use futures_buffered_unordered::futures_unordered::{FIRST_GROUP, FuturesUnordered};

@@ -1,6 +1,6 @@
 //! The items of an iterator as a stream.
 use futures::task::Poll;
-use futures_buffered_merges::slot_stream::SlotStream;
+use futures_buffered_unordered::slot_stream::SlotStream;
 use futures_buffered_unordered::slot_future::SlotHandle;
 use std::marker::Model;
 

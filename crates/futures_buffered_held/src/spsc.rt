@@ -19,7 +19,7 @@ use crate::spsc_place::WaitingPlace;
 use futures::task::Poll;
 use futures_buffered_core::ready_core::{MAX_CAPACITY, NewFault};
 use futures_buffered_core::ready_shared::SharedWaker;
-use futures_buffered_merges::slot_stream::SlotStream;
+use futures_buffered_unordered::slot_stream::SlotStream;
 use futures_buffered_unordered::slot_future::SlotWaker;
 pub use rtrb::{AnyItems, Finished, Protocol};
 use rtrb::{Consumer, Producer, PushError, RingBuffer};

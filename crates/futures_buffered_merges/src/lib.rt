@@ -8,16 +8,10 @@
 //!   `merge` and `merge_unbounded` make it from an iterator.
 //! - `waiting_merge`: `WaitingMerge`, which holds a merge while a task waits for its next item, and then returns the
 //!   merge.
-//!
-//! `merge_bounded`, `merge_unbounded` and `slot_stream` are those of `futures_buffered_unordered`.
 #![tactic(auto)]
 
 pub mod in_flight_merge;
 pub mod waiting_merge;
 pub mod with_end;
 
-pub use futures_buffered_unordered::merge_bounded::{Merge, MergeBounded};
-pub use futures_buffered_unordered::merge_unbounded::MergeUnbounded;
-pub use futures_buffered_unordered::slot_stream::{PollStream, SlotStream};
-pub use futures_buffered_unordered::{merge_bounded, merge_unbounded, slot_stream};
 pub use waiting_merge::WaitingMerge;

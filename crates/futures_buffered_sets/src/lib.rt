@@ -24,10 +24,10 @@
 pub use futures_buffered_joins::join::{JoinAll, join_all};
 pub use futures_buffered_joins::try_join::{TryJoinAll, try_join_all};
 pub use futures_buffered_joins::{join, try_join};
-pub use futures_buffered_merges::merge_bounded::{Merge, MergeBounded};
-pub use futures_buffered_merges::merge_unbounded::MergeUnbounded;
-pub use futures_buffered_merges::slot_stream::{PollStream, SlotStream};
-pub use futures_buffered_merges::{merge_bounded, merge_unbounded, slot_stream};
+pub use futures_buffered_unordered::merge_bounded::{Merge, MergeBounded};
+pub use futures_buffered_unordered::merge_unbounded::MergeUnbounded;
+pub use futures_buffered_unordered::slot_stream::{PollStream, SlotStream};
+pub use futures_buffered_unordered::{merge_bounded, merge_unbounded, slot_stream};
 pub use futures_buffered_ordered::futures_ordered::FuturesOrdered;
 pub use futures_buffered_ordered::futures_ordered_bounded::FuturesOrderedBounded;
 pub use futures_buffered_ordered::{futures_ordered, futures_ordered_bounded};

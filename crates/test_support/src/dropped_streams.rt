@@ -3,7 +3,7 @@ use crate::counter::Counter;
 use crate::keep::keep;
 use futures::task::Poll;
 use futures_buffered_core::ready_source::SlotHandle;
-use futures_buffered_merges::slot_stream::SlotStream;
+use futures_buffered_unordered::slot_stream::SlotStream;
 use std::alloc::AllocError;
 use std::sync::Arc;
 use std::sync::atomic::Ordering::SeqCst;

@@ -1,7 +1,7 @@
 //! A stream whose items are known.
 use futures::task::Poll;
 use futures_buffered_core::ready_source::SlotHandle;
-use futures_buffered_merges::slot_stream::SlotStream;
+use futures_buffered_unordered::slot_stream::SlotStream;
 
 /// Gives `left` items, each at once: first `next`, and each further one `step` above the one before. Then it ends.
 #[derive(Clone, Copy, Debug, PartialEq, Eq)]
