@@ -1,16 +1,19 @@
 -- How items that an iterator gives go into a new set in flight, each in the slot of its place.
-use Rattle.std.proofs.Common.{◌≡◌, ◌≢◌, ◌<◌, ℕ, zero, suc, ◌+◌, ◌-◌, List, [], ◌∷◌, ◌++◌, length, get_or, Option, Some, None, is_some, All, refl, sym, ap, ap₂, subst, ◌∙◌, inl, inr, arith, length-set, slice_get}
-use Rattle.std.specs.List.{range_with_len, count_by}
+use Rattle.std.proofs.Common.{◌≡◌, ◌≢◌, ◌<◌, ◌≤◌, ℕ, zero, suc, Bool, true, false, ◌+◌, ◌-◌, List, [], ◌∷◌, ◌++◌, length, get_or, Option, Some, None, is_some, All, refl, sym, ap, ap₂, subst, ◌∙◌, inl, inr, arith, length-set, slice_get}
+use Rattle.std.specs.List.{FoldsTo, range_with_len, count_by}
 use Rattle.std.specs.Prelude.{max, replicate}
 use Rattle.std.specs.Iterator.{Drains, YieldsThen}
 use Rattle.std.proofs.lemmas.List.{get_or-set_same, get_or-set_other, length-append, length-replicate, length_push}
 use Rattle.std.proofs.lemmas.Bool.{cases_eq}
+use Rattle.futures_buffered_table.specs.declared.answer.TheConstants.{MAX_CAPACITY}
 use Rattle.futures_buffered_core.specs.Drawn.{Items, Draws}
 use Rattle.futures_buffered_core.specs.SlotMap.{Slots, value_in, held_count, slot_count}
 use Rattle.futures_buffered_unordered.specs.Extended.{EachDrawn}
 use Rattle.futures_buffered_unordered.proofs.HeldGivesLemmas.{None-Some}
 use Rattle.futures_buffered_in_flight.specs.InFlight.{FutureOf, Flights, CanPollAll, IsNewInFlight, KeyGives, SlotGives, EntersAt, FliesInOrder, flight_slots, room_taken}
-use Rattle.futures_buffered_in_flight.specs.InFlightOrdered.{OrderedInFlight, IsNewInOrder, ordered_room}
+use Rattle.futures_buffered_in_flight.specs.InFlightOrdered.{EntersBack, HoldsInTurn, IsNewInOrder, OrderedInFlight, ordered_room}
+use Rattle.futures_buffered_in_flight.specs.InFlightQueue.{KeepsRoom}
+use Rattle.futures_buffered_in_flight.proofs.InFlightLemmas.{true-false}
 use Rattle.futures_buffered_in_flight.specs.declared.in_flight.Place.{Place}
 use Rattle.futures_buffered_in_flight.specs.declared.run.Key.{Key}
 
@@ -137,11 +140,15 @@ module _ {F A : Type 0} where
   pub new_room : (n : ℕ) (q : OrderedInFlight F A) → IsNewInOrder n q → ordered_room q ≡ n
   new_room n q new = ap (λ (s : Slots (Place ℕ)). slot_count s) new.new_set.0 ∙ length-replicate n None
 
-  pub turns_none : (n : ℕ) (q : OrderedInFlight F A) → IsNewInOrder n q → length q.entries ≡ 0
-  turns_none n q new = ap length new.no_entries
+  -- these items went into a new queue, one after another
+  pub holds_in_turn : (future : FutureOf F A) (grows : Bool) (items : List F) (n : ℕ) (start q : OrderedInFlight F A) → n ≡ length items → IsNewInOrder (max 1 n) start → FoldsTo (EntersBack future grows) start items q → length q.entries ≡ n → HoldsInTurn future grows items q
+  holds_in_turn future grows items n start q is new pushed count =
+      record { start = start; is_new = subst (λ m. IsNewInOrder (max 1 m) start) is new; pushed = pushed; one_each = count ∙ is }
 
-  -- while an item is left, there is room for it
-  pub turns_room : (items ys rest : List F) (f : F) (start q : OrderedInFlight F A) → IsNewInOrder (max 1 (length items)) start → items ≡ ys ++ f ∷ rest → length q.entries ≡ length ys → ordered_room q ≡ ordered_room start → length q.entries < ordered_room q
-  turns_room items ys rest f start q new is count room =
-      let all : length items ≡ length ys + length (f ∷ rest) = ap length is ∙ length-append ys (f ∷ rest) in
-      omega (arith, all, new_room (max 1 (length items)) start new, count, room)
+  -- so a bounded queue has as many slots as the new queue
+  pub few_slots : (grows : Bool) (n : ℕ) (start q : OrderedInFlight F A) → IsNewInOrder n start → n ≤ MAX_CAPACITY → KeepsRoom grows start.set q.set → grows ≡ false → ordered_room q ≤ MAX_CAPACITY
+  few_slots true n start q new few same bounded = absurd (true-false bounded)
+  few_slots false n start q new few same bounded = omega (arith, new_room n start new, few, same)
+
+  pub none_pushed : (n : ℕ) (q : OrderedInFlight F A) → IsNewInOrder n q → length q.entries ≡ 0
+  none_pushed n q new = ap length new.no_entries

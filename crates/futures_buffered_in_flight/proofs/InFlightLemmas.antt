@@ -1,6 +1,6 @@
 -- What may come from the kit's set, from the futures that wait and from the slots, and what each call leaves of the set.
-use Rattle.std.proofs.Common.{◌≡◌, ◌<◌, ◌≤◌, ℕ, ◌+◌, ◌-◌, ◌^◌, List, [], ◌∷◌, ◌++◌, Option, Some, None, IfSome, is_some, count_by, cond, length, length-set, zero, suc, ap, refl, sym, subst, ◌∙◌, ◌⊎◌, inl, inr, arith}
-use Rattle.std.specs.Prelude.{min}
+use Rattle.std.proofs.Common.{◌≡◌, ◌<◌, ◌≤◌, ℕ, ◌+◌, ◌-◌, ◌^◌, List, [], ◌∷◌, ◌++◌, Option, Some, None, IfSome, is_some, count_by, cond, length, length-set, zero, suc, Bool, true, false, ap, refl, sym, subst, ◌∙◌, ◌⊎◌, inl, inr, arith}
+use Rattle.std.specs.Prelude.{Ok, Err, min}
 use Rattle.std.proofs.lemmas.Bool.{cases_eq}
 use Rattle.std.proofs.lemmas.List.Sums.{sum_by-cons}
 use Rattle.std.proofs.lemmas.List.{length_push}
@@ -14,8 +14,7 @@ use Rattle.futures.specs.declared.task.context.Context.{Context}
 use Rattle.futures_buffered_core.specs.SlotMap.{Slots, value_in, held_count, with_slot_freed, Inserts}
 use Rattle.futures_buffered_unordered.specs.FuturesUnorderedBounded.{IsWoken}
 use Rattle.futures_buffered_unordered.proofs.HeldGivesLemmas.{Gathers-Within, Gathers-After, value_in-with_slot_freed, value_in-with_slot_freed_other, None-Some}
-use Rattle.futures_buffered_in_flight.specs.InFlight.{FutureOf, Flights, AnyRunGives, AnySlotGives, AnyWaitGives, CanPollAll, CanPollRuns, CanPollWaiting, ComesByKey, ComesFromSlots, EntersAt, FlightsGiveNoMore, FlightsWaitAt, GivesByKey, HasEach, IsHeld, MayCome, PollsInFlight, WaitGives, flight_slots, run_count}
-use Rattle.futures_buffered_in_flight.specs.InFlightGrowing.{MakesRoom}
+use Rattle.futures_buffered_in_flight.specs.InFlight.{FutureOf, Flights, AnyRunGives, AnySlotGives, AnyWaitGives, CanPollAll, CanPollRuns, CanPollWaiting, ComesByKey, ComesFromSlots, EntersAt, FlightsGiveNoMore, FlightsWaitAt, GivesByKey, HasEach, HasNoRoom, IsHeld, IsUsedUp, MakesRoom, MayCome, PollsInFlight, PushesInFlight, WaitGives, flight_slots, run_count}
 use Rattle.futures_buffered_in_flight.specs.InFlightTurns.{Flies, Starts}
 use Rattle.futures_buffered_in_flight.specs.declared.in_flight.Came.{Came}
 use Rattle.futures_buffered_in_flight.specs.declared.in_flight.Place.{Place}
@@ -62,6 +61,14 @@ module _ {F : Type 0} where
   pub started_still : (old new : List (Waits F)) (asked left : Context) → new ≡ old → Keeps asked left → ((old ≡ []) ⊎ IsWoken asked) → (new ≡ []) ⊎ IsWoken left
   started_still old new asked left same keeps (inl none) = inl (same ∙ none)
   started_still old new asked left same keeps (inr woken) = inr (woken_still asked left keeps woken)
+
+pub true-false : true ≡ false → ⊥
+true-false e = cc
+
+-- a set that made room has made as many pushes as before
+pub used_still : {F T : Type 0} (old wide : Flights F T) → MakesRoom old wide → IsUsedUp old → IsUsedUp wide
+used_still old wide (inl same) used = let e = ap (λ (s : Flights _ _). s.next) same.1 in omega (arith, e, used)
+used_still old wide (inr made) used = omega (arith, made.1.rest.1, used)
 
 module _ {F A : Type 0} (future : FutureOf F A) where
   any_push : (ws : List (Waits F)) (w : Waits F) (came : Key × Option A) → AnyWaitGives future (ws ++ w ∷ []) came → AnyWaitGives future ws came ⊎ WaitGives future w came
@@ -222,6 +229,22 @@ module _ {F A T : Type 0} (future : FutureOf F A) where
       let futures = made.1.futures in
       let less : FlightsGiveNoMore future old wide = less_after old wide (λ came run. subst (λ runs. AnyRunGives future runs came) futures.0 run) futures.1 in
       can_after old wide can (subst (λ runs. CanPollRuns future runs) (sym futures.0) can.running) futures.1 made.1.rest.1 less
+
+  -- room was made, and the future went in
+  pub admitted : {B : Type 0} (grows : Bool) (old wide new : Flights F T) (f : F) (tag : T) (given : B) (key : Key) → MakesRoom old wide → (grows ≡ false → wide ≡ old) → (HasNoRoom wide → ⊥) → EntersAt future wide f tag key new → PushesInFlight future grows old f tag given (Ok key) new
+  admitted false old wide new f tag given key made same has p =
+      record {
+        went_in = subst (λ s. EntersAt future s f tag key new) (same refl) p;
+        back = tt;
+        full = λ full. absurd (has (subst (λ (s : Flights F T). HasNoRoom s) (sym (same refl)) full));
+        room = λ e. absurd (true-false (sym e));
+      }
+  admitted true old wide new f tag given key made same has p =
+      record { went_in = (wide, made, p); back = tt; full = λ used. absurd (has (inr (used_still old wide made used))); room = λ e. absurd (true-false (sym e)) }
+
+  -- there was no room
+  pub turned_away : {B : Type 0} (grows : Bool) (old new : Flights F T) (f : F) (tag : T) (given : B) → HasNoRoom old → new ≡ old → PushesInFlight future grows old f tag given (Err given) new
+  turned_away grows old new f tag given none same = record { went_in = tt; back = (refl, same); full = λ _. refl; room = λ _. none }
 
   pub starts_none : (s : Flights F T) → CanPollAll future s → Starts future s s
   starts_none s can = record { slots = refl; keys = refl; room = omega arith; less = λ came g. g; again = can }

@@ -1,22 +1,22 @@
 -- What a push and a poll leave of a set of futures in flight of which none is cancelled.
-use Rattle.std.proofs.Common.{count_by, get_or, length-set, set, ◌≡◌, ◌+◌, ◌<◌, ℕ, zero, suc, Bool, cond, List, length, IsSome, is_some, Option, Some, None, refl, sym, subst, ap, ap₂, ◌∙◌, ◌⊎◌, inl, inr, arith}
+use Rattle.std.proofs.Common.{count_by, get_or, length-set, set, ◌≡◌, ◌+◌, ◌<◌, ◌++◌, ℕ, zero, suc, Bool, true, false, cond, List, [], ◌∷◌, length, IsSome, is_some, Option, Some, None, refl, sym, subst, ap, ap₂, ◌∙◌, ◌⊎◌, inl, inr, arith}
 use Rattle.std.specs.List.{sum_by}
 use Rattle.std.specs.Prelude.{replicate}
-use Rattle.std.proofs.lemmas.List.{get_or-set_same, get_or-set_other, length-replicate}
-use Rattle.std.proofs.lemmas.List.Sums.{get_or-le-sum_by, sum_by-set}
+use Rattle.std.proofs.lemmas.List.{get_or-set_same, get_or-set_other, length-replicate, length_push}
+use Rattle.std.proofs.lemmas.List.Sums.{get_or-le-sum_by, sum_by-append, sum_by-set}
 use Rattle.std.proofs.lemmas.Bool.{cases_eq, eq-eqb}
 use Rattle.futures.specs.declared.task.Poll.TheVariants.{Ready, Pending}
 use Rattle.futures.specs.declared.task.context.Context.{Context}
 use Rattle.futures_buffered_core.specs.SlotMap.{Slots, value_in, held_count, slot_count, with_slot_freed, Inserts}
 use Rattle.futures_buffered_core.proofs.SlotMapLemmas.{value_within}
 use Rattle.futures_buffered_unordered.proofs.HeldGivesLemmas.{value_in-with_slot_freed, value_in-with_slot_freed_other, None-Some}
-use Rattle.futures_buffered_ordered.specs.Numbered.{one_at}
-use Rattle.futures_buffered_in_flight.specs.InFlight.{FutureOf, Flights, CanPollAll, IsNewInFlight, KeyGives, EntersAt, FlightsGiveNoMore, PollsInFlight, flight_slots}
-use Rattle.futures_buffered_in_flight.specs.InFlightQueue.{CanPollQueue, NumberGives, PollsByNumber, PollsQueued, PushesQueued, QueuesNumber, SameRoom, flight_count, flights_with, has_tag}
+use Rattle.futures_buffered_ordered.specs.Numbered.{PushesInto, one_at}
+use Rattle.futures_buffered_in_flight.specs.InFlight.{FutureOf, Flights, AnyRunGives, AnyWaitGives, CanPollAll, IsNewInFlight, KeyGives, Enters, EntersAt, FlightsGiveNoMore, HasNoRoom, IsUsedUp, MakesRoom, MakesSlot, PollsInFlight, flight_slots}
+use Rattle.futures_buffered_in_flight.specs.InFlightQueue.{CanPollQueue, HasGrown, IsAtItsBound, KeepsRoom, MayRefuseNumber, NumberGives, PollsByNumber, PollsQueued, PushesQueued, QueuesNumber, RefusesNumbers, SameRoom, TakesNumber, flight_count, flights_with, has_tag}
 use Rattle.futures_buffered_in_flight.specs.declared.in_flight.Came.{Came}
 use Rattle.futures_buffered_in_flight.specs.declared.in_flight.Place.{Place}
 use Rattle.futures_buffered_in_flight.specs.declared.run.Key.{Key}
-use Rattle.futures_buffered_in_flight.proofs.InFlightLemmas.{any, same_slots, slots_after, slots_within}
+use Rattle.futures_buffered_in_flight.proofs.InFlightLemmas.{any, same_slots, slots_after, slots_within, true-false, wide_can_poll}
 
 one_self : (i : ℕ) → one_at i i ≡ 1
 one_self i = ap (λ (b : Bool). cond b 1 0) (eq-eqb i i refl)
@@ -258,3 +258,111 @@ module _ {F A : Type 0} (future : FutureOf F A) where
         kept = p.kept;
         again = again;
       }
+
+-- a free slot more holds nothing
+nothing_more : {P : Type 0} (ps : List (Option P)) (i : ℕ) → get_or (ps ++ None ∷ []) i None ≡ get_or ps i None
+nothing_more [] zero = refl
+nothing_more [] (suc i) = refl
+nothing_more (p ∷ ps) zero = refl
+nothing_more (p ∷ ps) (suc i) = nothing_more ps i
+
+tagged_more : (i : ℕ) (ps : List (Option (Place ℕ))) → count_by (has_tag i) (ps ++ None ∷ []) ≡ count_by (has_tag i) ps
+tagged_more i ps = sum_by-append (λ (o : Option (Place ℕ)). cond (has_tag i o) 1 0) ps (None ∷ []) ∙ omega arith
+
+-- a set that makes room holds what it held
+pub wide_count : {F T : Type 0} (old wide : Flights F T) → MakesRoom old wide → flight_count wide ≡ flight_count old
+wide_count old wide (inl same) = ap (λ s. flight_count s) same.1
+wide_count old wide (inr made) = made.1.slots.2
+
+pub wide_slots : {F T : Type 0} (old wide : Flights F T) → MakesRoom old wide → HasGrown old wide
+wide_slots old wide (inl same) = let e = ap (λ s. flight_slots s) same.1 in omega (arith, e)
+wide_slots old wide (inr made) = let e = ap length made.1.slots.0 in omega (arith, e, length_push old.slots.places None)
+
+pub wide_numbers : {F : Type 0} (i : ℕ) (old wide : Flights F ℕ) → MakesRoom old wide → flights_with i wide ≡ flights_with i old
+wide_numbers i old wide (inl same) = ap (λ s. flights_with i s) same.1
+wide_numbers i old wide (inr made) = ap (λ ps. count_by (has_tag i) ps) made.1.slots.0 ∙ tagged_more i old.slots.places
+
+module _ {F A : Type 0} (future : FutureOf F A) where
+  wide_may : (old wide : Flights F ℕ) → MakesSlot old wide → FlightsGiveNoMore future old wide
+  wide_may old wide made came (inl run) = inl (subst (λ runs. AnyRunGives future runs came) made.futures.0 run)
+  wide_may old wide made came (inr wait) = inr (subst (λ ws. AnyWaitGives future ws came) made.futures.1 wait)
+
+  wide_gives : (old wide : Flights F ℕ) (out : ℕ × A) → MakesRoom old wide → NumberGives future wide out → NumberGives future old out
+  wide_gives old wide out (inl same) h = subst (λ s. NumberGives future s out) same.1 h
+  wide_gives old wide out (inr made) h =
+      (h.0, h.1, sym (ap (λ ps. get_or ps h.0 None) made.1.slots.0 ∙ nothing_more old.slots.places h.0) ∙ h.2, wide_may old wide made.1 (record { slot = h.0; push = h.1 }, Some out.1) h.3)
+
+  -- the set may be polled, and room was made
+  pub wide_can_queue : (old wide : Flights F ℕ) → CanPollQueue future old → MakesRoom old wide → CanPollQueue future wide
+  wide_can_queue old wide can made =
+      let slots = wide_slots old wide made in
+      let count = wide_count old wide made in
+      record {
+        each = wide_can_poll future old wide can.each made;
+        none_cancelled = none made;
+        some = omega (arith, slots, can.some);
+        bound = omega (arith, slots, count, can.bound);
+      }
+    where
+      none : MakesRoom old wide → wide.cancelled ≡ 0
+      none (inl same) = ap (λ (s : Flights F ℕ). s.cancelled) same.1 ∙ can.none_cancelled
+      none (inr made) = made.1.rest.0 ∙ can.none_cancelled
+
+  -- the set took a future with a number; it made a slot first if it grows and had no room
+  pub taken : (grows : Bool) (old wide new : Flights F ℕ) (f : F) (number : ℕ) → (grows ≡ true → MakesRoom old wide) → (grows ≡ false → wide ≡ old) → QueuesNumber future wide f number new → PushesInto (TakesNumber future grows) flight_count flights_with HasGrown old (record { future = f; number = number }) new
+  taken false old wide new f number made same p =
+      let own : QueuesNumber future old f number new = subst (λ s. QueuesNumber future s f number new) (same refl) p in
+      record { went_in = own; one_more = own.one_more; numbers = own.numbers; set = omega (arith, own.same_room) }
+  taken true old wide new f number made same p =
+      let room = made refl in
+      record {
+        went_in = (wide, room, p);
+        one_more = omega (arith, p.one_more, wide_count old wide room);
+        numbers = λ i. p.numbers i ∙ ap (λ n. n + one_at i number) (wide_numbers i old wide room);
+        set = omega (arith, wide_slots old wide room, p.same_room);
+      }
+
+  -- with its number comes what the future may give that went in
+  pub taken_gives : (grows : Bool) (old new : Flights F ℕ) (f : F) (number : ℕ) → TakesNumber future grows old f number new → (out : ℕ × A) → NumberGives future new out → NumberGives future old out ⊎ ((out.0 ≡ number) × future.gives f out.1)
+  taken_gives false old new f number q out h = q.gives out h
+  taken_gives true old new f number q out h = elim (q.2.gives out h) [ inl was ↦ inl (wide_gives old q.0 out q.1 was) | inr own ↦ inr own ]
+
+  pub taken_room : (grows : Bool) (old new : Flights F ℕ) (f : F) (number : ℕ) → TakesNumber future grows old f number new → KeepsRoom grows old new
+  taken_room false old new f number q = q.same_room
+  taken_room true old new f number q = omega (arith, wide_slots old q.0 q.1, q.2.same_room)
+
+  pub taken_again : (grows : Bool) (old new : Flights F ℕ) (f : F) (number : ℕ) → TakesNumber future grows old f number new → CanPollQueue future new
+  taken_again false old new f number q = q.again
+  taken_again true old new f number q = q.2.again
+
+module _ {F T : Type 0} where
+  pub room_self : (grows : Bool) (s : Flights F T) → KeepsRoom grows s s
+  room_self false s = refl
+  room_self true s = omega arith
+
+  pub room_on : (grows : Bool) (a b c : Flights F T) → KeepsRoom grows a b → KeepsRoom grows b c → KeepsRoom grows a c
+  room_on false a b c first then = then ∙ first
+  room_on true a b c first then = omega (arith, first, then)
+
+  -- a push keeps the slots, and may make one if the set grows
+  pub entered_room : {A : Type 0} (future : FutureOf F A) (grows : Bool) (old new : Flights F T) (f : F) (tag : T) (key : Key) → Enters future grows old f tag key new → KeepsRoom grows old new
+  entered_room future false old new f tag key p = same_slots future old new f tag key p
+  entered_room future true old new f tag key p = omega (arith, wide_slots old p.0 p.1, same_slots future p.0 new f tag key p.2)
+
+-- when a push of a future with a number may be refused, and when each is
+module _ {F : Type 0} where
+  pub may_refuse_grown : (grows : Bool) (s : Flights F ℕ) → grows ≡ true → HasNoRoom s → MayRefuseNumber grows s
+  may_refuse_grown true s is none = none
+  may_refuse_grown false s is none = absurd (true-false (sym is))
+
+  pub may_refuse_bounded : (grows : Bool) (s : Flights F ℕ) → grows ≡ false → IsAtItsBound s → MayRefuseNumber grows s
+  may_refuse_bounded false s is full = full
+  may_refuse_bounded true s is full = absurd (true-false is)
+
+  pub refuses_grown : (grows : Bool) (s : Flights F ℕ) → grows ≡ true → (RefusesNumbers grows s → IsUsedUp s) × (IsUsedUp s → RefusesNumbers grows s)
+  refuses_grown true s is = (λ used. used, λ used. used)
+  refuses_grown false s is = absurd (true-false (sym is))
+
+  pub refuses_bounded : (grows : Bool) (s : Flights F ℕ) → grows ≡ false → (RefusesNumbers grows s → IsAtItsBound s) × (IsAtItsBound s → RefusesNumbers grows s)
+  refuses_bounded false s is = (λ full. full, λ full. full)
+  refuses_bounded true s is = absurd (true-false is)

@@ -1,9 +1,9 @@
 -- What comes of a set or an ordered queue that a task waits for.
-use Rattle.std.proofs.Common.{Option, arith}
+use Rattle.std.proofs.Common.{Bool, Option, arith}
 use Rattle.futures.specs.declared.task.Poll.TheVariants.{Ready, Pending}
 use Rattle.futures.specs.declared.task.context.Context.{Context}
 use Rattle.futures_buffered_in_flight.specs.InFlight.{FutureOf, Flights, CameInFlight, PollsInFlight}
-use Rattle.futures_buffered_in_flight.specs.InFlightOrdered.{CameInTurn, CanPollOrdered, OrderedInFlight, PollsInTurn}
+use Rattle.futures_buffered_in_flight.specs.InFlightOrdered.{AnswersInTurn, CameInTurn, OrderedInFlight}
 use Rattle.futures_buffered_in_flight.specs.declared.in_flight.Came.{Came}
 use Rattle.futures_buffered_in_flight.proofs.InFlightOrderedLemmas.{answers_in_turn}
 
@@ -16,13 +16,13 @@ module _ {F A T : Type 0} (future : FutureOf F A) where
   came_later old mid new came cx left p c = grind arith
 
 module _ {F A : Type 0} (future : FutureOf F A) where
-  pub came_in_turn_at_once : (old new : OrderedInFlight F A) (came : Option A) (cx left : Context) → CanPollOrdered future old → PollsInTurn future old (Ready came) new cx left → CameInTurn future old came new
-  came_in_turn_at_once old new came cx left can poll =
+  pub came_in_turn_at_once : {grows : Bool} (old new : OrderedInFlight F A) (came : Option A) (cx left : Context) → AnswersInTurn future grows old (Ready came) new cx left → CameInTurn future old came new
+  came_in_turn_at_once old new came cx left poll =
       let stream = answers_in_turn future old new (Ready came) cx left poll in
       grind arith
 
   -- what may come after a pending poll might come before
-  pub came_in_turn_later : (old mid new : OrderedInFlight F A) (came : Option A) (cx left : Context) → PollsInTurn future old Pending mid cx left → CameInTurn future mid came new → CameInTurn future old came new
+  pub came_in_turn_later : {grows : Bool} (old mid new : OrderedInFlight F A) (came : Option A) (cx left : Context) → AnswersInTurn future grows old Pending mid cx left → CameInTurn future mid came new → CameInTurn future old came new
   came_in_turn_later old mid new came cx left poll c =
       let stream = answers_in_turn future old mid Pending cx left poll in
       grind arith

@@ -1,6 +1,6 @@
 -- What a contract sees of a set of futures in flight. A clause describes the futures by the ghost members of their
 -- type: `F.Future`.
-use Rattle.std.specs.Prelude.{◌≡◌, ◌+◌, ◌-◌, ◌^◌, ◌<◌, ◌≤◌, ◌⊎◌, min, ℕ, List, [], ◌∷◌, length, slice_get, Option, Some, None}
+use Rattle.std.specs.Prelude.{◌≡◌, ◌+◌, ◌-◌, ◌^◌, ◌<◌, ◌≤◌, ◌⊎◌, min, ℕ, Bool, false, true, List, [], ◌∷◌, length, slice_get, Option, Some, None}
 use Rattle.std.specs.Prelude.{IfSome, IsSomeAnd, Result, IfOk, IfErr, IsErr}
 use Rattle.std.specs.List.{AllByRecursion}
 use Rattle.futures.specs.declared.task.Poll.{Poll}
@@ -13,7 +13,7 @@ use Rattle.futures.specs.Queued.{AllPollable, AnyGives, Gathers, set_len, set_pl
 use Rattle.futures.specs.Runs.{Runs}
 use Rattle.futures.specs.Task.{Covers, Keeps}
 use Rattle.futures_buffered_core.specs.SlotMap.{Slots, value_in, held_count, with_slot_freed, no_slots, slot_count}
-use Rattle.futures_buffered_core.specs.SlotMap.{Inserts}
+use Rattle.futures_buffered_core.specs.SlotMap.{GrowsByOne, Inserts}
 use Rattle.futures_buffered_unordered.specs.FuturesUnorderedBounded.{IsWoken}
 use Rattle.futures_buffered_in_flight.specs.declared.run.Run.{Run}
 use Rattle.futures_buffered_in_flight.specs.declared.run.Waits.{Waits}
@@ -71,6 +71,24 @@ HasNoRoom s = (flight_slots s ≤ room_taken s) ⊎ IsUsedUp s
 -- a push that is refused changes nothing, and there was no room
 abbrev pub RefusesInFlight : {F T : Type 0} → Flights F T → Flights F T → Type 0
 RefusesInFlight old new = HasNoRoom old × (new ≡ old)
+
+-- each push is refused, also if no allocation fails: there is no room in a set that does not grow, or 2 ^ 64 - 1 pushes
+-- were made; `grows` says whether the set grows
+abbrev pub RefusesAll : {F T : Type 0} → Bool → Flights F T → Type 0
+RefusesAll false s = HasNoRoom s
+RefusesAll true s = IsUsedUp s
+
+-- there is one slot more, which is the next to be used, and the rest does not change
+pub record MakesSlot {F T : Type 0} (old wide : Flights F T) : Type 0 where
+  pub slots : GrowsByOne old.slots wide.slots
+  pub futures : (wide.running ≡ old.running) × (wide.waiting ≡ old.waiting)
+  pub rest : (wide.cancelled ≡ old.cancelled) × (wide.next ≡ old.next)
+
+-- There was room, and nothing changes. Or as many futures occupied room as there were slots, and there is one slot
+-- more.
+abbrev pub MakesRoom : {F T : Type 0} → Flights F T → Flights F T → Type 0
+MakesRoom old wide = ((HasNoRoom old → ⊥) × (wide ≡ old))
+    ⊎ ((flight_slots old ≤ room_taken old) × MakesSlot old wide)
 
 -- there are n slots, all free, and no future
 abbrev pub IsNewInFlight : {F T : Type 0} → ℕ → Flights F T → Type 0
@@ -160,20 +178,26 @@ module _ {F A T : Type 0} (future : FutureOf F A) where
     -- the set may be polled
     pub again : CanPollAll new
 
-  -- One push of a future with this tag. If the push is refused, it returns `given`.
-  pub record PushesInFlight {B : Type 0} (old : Flights F T) (pushed : F) (tag : T) (given : B)
+  -- a future was added to a free slot, under this tag and this key; a set that grows makes a slot first if there was no
+  -- room
+  abbrev pub Enters : Bool → Flights F T → F → T → Key → Flights F T → Type 0
+  Enters false old pushed tag key new = EntersAt old pushed tag key new
+  Enters true old pushed tag key new = (wide : Flights F T) × MakesRoom old wide × EntersAt wide pushed tag key new
+
+  -- One push of a future with this tag; `grows` says whether the set grows. If the push is refused, it returns `given`.
+  pub record PushesInFlight {B : Type 0} (grows : Bool) (old : Flights F T) (pushed : F) (tag : T) (given : B)
       (result : Result Key B) (new : Flights F T) : Type 0 where
     -- if the push succeeds, the future is added
-    pub went_in : IfOk result (λ key. EntersAt old pushed tag key new)
+    pub went_in : IfOk result (λ key. Enters grows old pushed tag key new)
     -- if the push is refused, it returns `given`, and nothing changes
     pub back : IfErr result (λ back. (back ≡ given) × (new ≡ old))
-    -- the push is refused if and only if there is no room
-    pub full : HasNoRoom old → IsErr result
+    -- the push is refused only if there is no room, and always if each push is refused
+    pub full : RefusesAll grows old → IsErr result
     pub room : IsErr result → HasNoRoom old
 
   -- a future was added under this tag, with some key
-  abbrev pub WentIn : T → Flights F T → F → Flights F T → Type 0
-  WentIn tag old pushed new = (key : Key) × EntersAt old pushed tag key new
+  abbrev pub WentIn : Bool → T → Flights F T → F → Flights F T → Type 0
+  WentIn grows tag old pushed new = (key : Key) × Enters grows old pushed tag key new
 
   -- an output that the future of this key may give: the future was held under this tag, and its slot is free now
   pub record ComesByKey (old : Flights F T) (came : Came A T) (new : Flights F T) : Type 0 where

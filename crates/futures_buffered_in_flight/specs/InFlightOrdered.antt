@@ -1,7 +1,8 @@
 -- What a contract sees of an ordered queue of futures in flight: the definitions on ordered queues, for a queue in
--- flight. A clause describes the futures by the ghost members of their type: `F.Future`.
-use Rattle.std.specs.Prelude.{◌≡◌, ◌⊎◌, ◌↔◌, ◌+◌, ◌<◌, ◌≤◌, ◌^◌, ℕ, [], Option, length, IfNone, IfSome, OnSome, Result}
-use Rattle.std.specs.Prelude.{IfErr, IsErr, List, OnOk, max}
+-- flight. A clause describes the futures by the ghost members of their type: `F.Future`. `grows` says whether the queue
+-- grows. Such a queue may have more entries than slots, since a kept output needs no slot.
+use Rattle.std.specs.Prelude.{◌≡◌, ◌⊎◌, ◌+◌, ◌<◌, ◌≤◌, ◌^◌, ℕ, Bool, false, true, [], Option, length, IfNone, IfSome, OnSome}
+use Rattle.std.specs.Prelude.{Result, IfErr, IsErr, List, OnOk, max}
 use Rattle.std.specs.List.{FoldsTo}
 use Rattle.futures.specs.Poll.{IfReady, OnPending}
 use Rattle.futures.specs.Runs.{Runs, After, Within, Leads, Chains, Ends}
@@ -9,52 +10,77 @@ use Rattle.futures.specs.declared.task.Poll.{Poll}
 use Rattle.futures.specs.declared.task.context.Context.{Context}
 use Rattle.futures_buffered_unordered.specs.FuturesUnorderedBounded.{IsWoken}
 use Rattle.futures_buffered_unordered.specs.declared.poll_one.PollFuture.{PollFuture}
-use Rattle.futures_buffered_ordered.specs.OrderedEntries.{Ordered, AddsBack, AddsFront, ComesInOrder, IsNewQueue}
+use Rattle.futures_buffered_ordered.specs.OrderedEntries.{Ordered, AddsBack, AddsFront, ComesInOrder, IsNewQueue, MayRefuse}
 use Rattle.futures_buffered_ordered.specs.OrderedEntries.{OrderedGives, PollsOrdered}
 use Rattle.futures_buffered_ordered.specs.OrderedEntriesInvariant.{IsNumbered, Numbering}
 use Rattle.futures_buffered_ordered.specs.declared.numbered_polls.NumberedPolls.{Ghosts as NumberedPollsOf}
-use Rattle.futures_buffered_in_flight.specs.InFlight.{Flights, FlightsWaitAt, FutureOf, IsNewInFlight, flight_slots}
-use Rattle.futures_buffered_in_flight.specs.InFlightQueue.{CanPollQueue, SameRoom, NumberGives}
-use Rattle.futures_buffered_in_flight.specs.InFlightQueue.{OfSomeTask, PollsByNumber, QueuesNumber}
-use Rattle.futures_buffered_in_flight.specs.InFlightQueue.{flight_count, flights_with}
+use Rattle.futures_buffered_in_flight.specs.InFlight.{Flights, FlightsWaitAt, FutureOf, HasNoRoom, IsNewInFlight, IsUsedUp}
+use Rattle.futures_buffered_in_flight.specs.InFlight.{flight_slots}
+use Rattle.futures_buffered_in_flight.specs.InFlightQueue.{CanPollQueue, KeepsRoom, NumberGives, OfSomeTask, PollsByNumber}
+use Rattle.futures_buffered_in_flight.specs.InFlightQueue.{SameRoom, TakesNumber, flight_count, flights_with}
 
 -- the futures in flight, each with a number; the entries from the front to the back, each entry in progress with the
 -- number of its future; and how many entries had a place when the queue was made
 abbrev pub OrderedInFlight : Type 0 → Type 0 → Type 0
 OrderedInFlight F A = Ordered (Flights F ℕ) A
 
--- there are as many entries as there can be
+-- how many slots there are: in a bounded queue, how many entries there can be
+abbrev pub ordered_room : {F A : Type 0} → OrderedInFlight F A → ℕ
+ordered_room q = flight_slots q.set
+
+-- there are as many entries as slots
 abbrev pub OrderedIsFull : {F A : Type 0} → OrderedInFlight F A → Type 0
 OrderedIsFull q = flight_slots q.set ≤ length q.entries
 
--- how many entries there can be
-abbrev pub ordered_room : {F A : Type 0} → OrderedInFlight F A → ℕ
-ordered_room q = flight_slots q.set
+-- there are no more entries than slots, unless the queue grows
+abbrev pub FitsSlots : {F A : Type 0} → Bool → OrderedInFlight F A → Type 0
+FitsSlots false q = length q.entries ≤ flight_slots q.set
+FitsSlots true q = Unit {0}
 
 -- there are n slots, no future and no entry, and a place for n entries at least
 abbrev pub IsNewInOrder : {F A : Type 0} → ℕ → OrderedInFlight F A → Type 0
 IsNewInOrder n = IsNewQueue (IsNewInFlight n) n
 
+-- there are as many slots as before, no future and no entry; and a place for an entry of each slot, unless the queue
+-- grows
+abbrev pub IsCleared : {F A : Type 0} → Bool → OrderedInFlight F A → OrderedInFlight F A → Type 0
+IsCleared false old new = IsNewInOrder (flight_slots old.set) new
+IsCleared true old new = (new.entries ≡ []) × IsNewInFlight (flight_slots old.set) new.set
+
 -- the place at which a pending poll waits
 abbrev pub OrderedWaitsAt : {F A : Type 0} → OrderedInFlight F A → ℕ → Type 0
 OrderedWaitsAt q = FlightsWaitAt q.set
 
--- How the queue keeps itself: the numbers are in order. There is a slot, and there are fewer than 2 ^ 62. There are at
--- most as many entries as slots, and a place for as many.
-pub record KeepsInOrder {F A : Type 0} (q : Numbering (Flights F ℕ) A) : Type 0 where
+-- There are at most as many entries as slots, a place for as many, and fewer than 2 ^ 62 slots.
+pub record HasPlaces {F A : Type 0} (q : OrderedInFlight F A) : Type 0 where
+  pub bound : length q.entries ≤ flight_slots q.set
+  pub fits : flight_slots q.set ≤ q.room
+  pub small : flight_slots q.set < 2 ^ 62
+
+-- How the queue keeps itself: the numbers are in order, there is a slot, and a bounded queue has its places.
+pub record KeepsInOrder {F A : Type 0} (grows : Bool) (q : Numbering (Flights F ℕ) A) : Type 0 where
   pub numbered : IsNumbered flights_with flight_count q
   pub some : 0 < flight_slots q.queue.set
-  pub bound : length q.queue.entries ≤ flight_slots q.queue.set
-  pub fits : flight_slots q.queue.set ≤ q.queue.room
-  pub small : flight_slots q.queue.set < 2 ^ 62
+  pub bounded : grows ≡ false → HasPlaces q.queue
 
 -- what may come from `runs`, and then one output of which `gives` holds
 abbrev pub ComesLast : {A : Type 0} → (A → Type 0) → Runs A → Runs A
 ComesLast gives runs = Chains runs (Leads gives Ends)
 
--- a push that is refused changes nothing, and there were as many entries as there can be
-abbrev pub RefusesFull : {F A : Type 0} → OrderedInFlight F A → OrderedInFlight F A → Type 0
-RefusesFull old new = OrderedIsFull old × (new ≡ old)
+-- a push may be refused: a bounded queue is full; in a queue that grows the entry might have needed an allocation, the
+-- set had no room, or there were as many entries as there can be
+abbrev pub MayRefuseFuture : {F A : Type 0} → Bool → OrderedInFlight F A → Type 0
+MayRefuseFuture false q = OrderedIsFull q
+MayRefuseFuture true q = MayRefuse HasNoRoom q
+
+-- each push is refused: a bounded queue is full; into a queue that grows 2 ^ 64 - 1 pushes were made
+abbrev pub RefusesFutures : {F A : Type 0} → Bool → OrderedInFlight F A → Type 0
+RefusesFutures false q = OrderedIsFull q
+RefusesFutures true q = IsUsedUp q.set
+
+-- a push that is refused changes nothing
+abbrev pub RefusesInOrder : {F A : Type 0} → Bool → OrderedInFlight F A → OrderedInFlight F A → Type 0
+RefusesInOrder grows old new = MayRefuseFuture grows old × (new ≡ old)
 
 module _ {F A : Type 0} (future : FutureOf F A) where
   -- each future in progress may be polled, and none is cancelled
@@ -68,39 +94,56 @@ module _ {F A : Type 0} (future : FutureOf F A) where
   -- One push, from `old` to `new`. `adds` says at which end the entry of the future is, and `with_one` what may come if
   -- an output of one future more does.
   pub record PushesInTurn
-      (adds : OrderedInFlight F A → F → OrderedInFlight F A → Type 0)
+      (grows : Bool)
+      (adds : (Flights F ℕ → F → ℕ → Flights F ℕ → Type 0) → OrderedInFlight F A → F → OrderedInFlight F A → Type 0)
       (with_one : (A → Type 0) → Runs A → Runs A)
       (old : OrderedInFlight F A)
       (pushed : F)
       (new : OrderedInFlight F A)
       : Type 0 where
     -- the future is added, and its entry at this end
-    pub added : adds old pushed new
+    pub added : adds (TakesNumber future grows) old pushed new
     pub one_more : length new.entries ≡ length old.entries + 1
     -- an output of the future may come there, and otherwise what might come before
     pub comes : Within (with_one (future.gives pushed) (ComesOfEach old)) (ComesOfEach new)
-    -- the queue can hold as many entries as before
-    pub same_room : flight_slots new.set ≡ flight_slots old.set
+    -- there are as many slots as before, or no fewer if the queue grows
+    pub same_room : KeepsRoom grows old.set new.set
     -- the queue may be polled
     pub again : CanPollOrdered new
 
   -- the future was added after all others: its output comes last
-  abbrev pub PushesBack : OrderedInFlight F A → F → OrderedInFlight F A → Type 0
-  PushesBack = PushesInTurn (AddsBack (QueuesNumber future)) ComesLast
+  abbrev pub EntersBack : Bool → OrderedInFlight F A → F → OrderedInFlight F A → Type 0
+  EntersBack grows = PushesInTurn grows AddsBack ComesLast
 
   -- the future was added before all others: its output comes first
-  abbrev pub PushesFront : OrderedInFlight F A → F → OrderedInFlight F A → Type 0
-  PushesFront = PushesInTurn (AddsFront (QueuesNumber future)) Leads
+  abbrev pub EntersFront : Bool → OrderedInFlight F A → F → OrderedInFlight F A → Type 0
+  EntersFront grows = PushesInTurn grows AddsFront Leads
 
-  -- these items were pushed one after another into a new queue with room for as many, and for one at least
-  pub record FliesInTurn (items : List F) (q : OrderedInFlight F A) : Type 0 where
+  -- such a push into a bounded queue
+  abbrev pub PushesBack : OrderedInFlight F A → F → OrderedInFlight F A → Type 0
+  PushesBack = EntersBack false
+
+  abbrev pub PushesFront : OrderedInFlight F A → F → OrderedInFlight F A → Type 0
+  PushesFront = EntersFront false
+
+  -- these items were pushed one after another into a new queue with a slot for each, and with one slot at least
+  pub record HoldsInTurn (grows : Bool) (items : List F) (q : OrderedInFlight F A) : Type 0 where
     pub start : OrderedInFlight F A
     pub is_new : IsNewInOrder (max 1 (length items)) start
-    pub pushed : FoldsTo PushesBack start items q
+    pub pushed : FoldsTo (EntersBack grows) start items q
     pub one_each : length q.entries ≡ length items
 
-  -- One push that returns the future if there is no room: `pushes` says what becomes of the queue otherwise.
+  -- into a bounded queue
+  abbrev pub FliesInTurn : List F → OrderedInFlight F A → Type 0
+  FliesInTurn = HoldsInTurn false
+
+  -- into a queue that grows
+  abbrev pub EntersInOrder : List F → OrderedInFlight F A → Type 0
+  EntersInOrder = HoldsInTurn true
+
+  -- One push that returns the future if it is refused: `pushes` says what becomes of the queue otherwise.
   pub record PushesOrComesBack
+      (grows : Bool)
       (pushes : OrderedInFlight F A → F → OrderedInFlight F A → Type 0)
       (old : OrderedInFlight F A)
       (pushed : F)
@@ -111,8 +154,9 @@ module _ {F A : Type 0} (future : FutureOf F A) where
     pub went_in : OnOk result (pushes old pushed new)
     -- if the push is refused, it returns the future, and nothing changes
     pub back : IfErr result (λ back. (back ≡ pushed) × (new ≡ old))
-    -- the push is refused if and only if there are as many entries as there can be
-    pub full : IsErr result ↔ OrderedIsFull old
+    -- the push is refused only if it may be, and always if each push is refused
+    pub room : IsErr result → MayRefuseFuture grows old
+    pub full : RefusesFutures grows old → IsErr result
     -- the queue may be polled
     pub again : CanPollOrdered new
 
@@ -125,7 +169,8 @@ module _ {F A : Type 0} (future : FutureOf F A) where
   }
 
   -- One poll, which takes the queue from `old` to `new` and the task from `cx` to `left`.
-  pub record PollsInTurn
+  pub record AnswersInTurn
+      (grows : Bool)
       (old : OrderedInFlight F A)
       (answer : Poll (Option A))
       (new : OrderedInFlight F A)
@@ -141,10 +186,14 @@ module _ {F A : Type 0} (future : FutureOf F A) where
     pub fewer : IfReady answer (λ o. OnSome o (length new.entries + 1 ≡ length old.entries))
     -- a pending poll leaves as many entries as before
     pub same_count : OnPending answer (length new.entries ≡ length old.entries)
-    -- the queue can hold as many entries as before, one at least, and holds no more than it can
+    -- there are as many slots as before, one at least, and no more entries than slots, unless the queue grows
     pub same_room : SameRoom old.set new.set
     pub some : 0 < flight_slots new.set
-    pub bound : length new.entries ≤ flight_slots new.set
+    pub bound : FitsSlots grows new
+
+  -- one poll of a bounded queue
+  abbrev pub PollsInTurn : OrderedInFlight F A → Poll (Option A) → OrderedInFlight F A → Context → Context → Type 0
+  PollsInTurn = AnswersInTurn false
 
   -- one poll, of the queue alone, without the task
   abbrev pub GivesInTurn : OrderedInFlight F A → Poll (Option A) → OrderedInFlight F A → Type 0
@@ -160,7 +209,7 @@ module _ {F A : Type 0} (future : FutureOf F A) where
     -- `None` comes if and only if there was no entry, and changes nothing; an output leaves one entry fewer
     pub empty : IfNone came ((length old.entries ≡ 0) × (new ≡ old))
     pub fewer : OnSome came (length new.entries + 1 ≡ length old.entries)
-    -- the queue can hold as many entries as before
+    -- there are as many slots as before
     pub same_room : flight_slots new.set ≡ flight_slots old.set
     -- the queue may be polled
     pub again : CanPollOrdered new

@@ -1,7 +1,7 @@
 -- What a contract sees of a set of futures in flight that an adaptor or an ordered queue holds. It accepts each future
 -- while a slot is free, and no future is cancelled. A clause describes the futures by the ghost members of their type:
 -- `F.Future`.
-use Rattle.std.specs.Prelude.{◌≡◌, ◌+◌, ◌<◌, ◌≤◌, ◌⊎◌, ◌==◌, ℕ, Bool, false, [], Option, Some, None, count_by}
+use Rattle.std.specs.Prelude.{◌≡◌, ◌+◌, ◌<◌, ◌≤◌, ◌⊎◌, ◌==◌, ℕ, Bool, false, true, [], Option, Some, None, count_by}
 use Rattle.futures.specs.Poll.{OnPending}
 use Rattle.futures.specs.Task.{Covers, Keeps}
 use Rattle.futures.specs.declared.task.Poll.{Poll}
@@ -11,7 +11,7 @@ use Rattle.futures_buffered_core.specs.SlotMap.{value_in, held_count}
 use Rattle.futures_buffered_unordered.specs.FuturesUnorderedBounded.{IsWoken}
 use Rattle.futures_buffered_ordered.specs.Numbered.{one_at, outputs_with}
 use Rattle.futures_buffered_in_flight.specs.InFlight.{FutureOf, Flights, AnySlotGives, CanPollAll, KeyGives, FlightsWaitAt}
-use Rattle.futures_buffered_in_flight.specs.InFlight.{flight_slots}
+use Rattle.futures_buffered_in_flight.specs.InFlight.{HasNoRoom, IsUsedUp, MakesRoom, flight_slots}
 use Rattle.futures_buffered_in_flight.specs.declared.in_flight.Place.{Place}
 
 -- how many futures are held
@@ -34,6 +34,25 @@ IsAtItsBound s = flight_slots s ≤ flight_count s
 -- there are as many slots as before
 abbrev pub SameRoom : {F T : Type 0} → Flights F T → Flights F T → Type 0
 SameRoom old new = flight_slots new ≡ flight_slots old
+
+-- there are no fewer slots than before
+abbrev pub HasGrown : {F T : Type 0} → Flights F T → Flights F T → Type 0
+HasGrown old new = flight_slots old ≤ flight_slots new
+
+-- there are as many slots as before, or no fewer if the set grows
+abbrev pub KeepsRoom : {F T : Type 0} → Bool → Flights F T → Flights F T → Type 0
+KeepsRoom false old new = SameRoom old new
+KeepsRoom true old new = HasGrown old new
+
+-- a push of a future with a number may be refused: no slot is free, or in a set that grows there is no room
+abbrev pub MayRefuseNumber : {F : Type 0} → Bool → Flights F ℕ → Type 0
+MayRefuseNumber false s = IsAtItsBound s
+MayRefuseNumber true s = HasNoRoom s
+
+-- each such push is refused, also if no allocation fails
+abbrev pub RefusesNumbers : {F : Type 0} → Bool → Flights F ℕ → Type 0
+RefusesNumbers false s = IsAtItsBound s
+RefusesNumbers true s = IsUsedUp s
 
 -- `None`, if no future is held, which changes nothing; an output that may come, with one future fewer held; or
 -- `Pending`, if a future is held, with as many held
@@ -103,6 +122,11 @@ module _ {F A : Type 0} (future : FutureOf F A) where
     pub same_room : SameRoom old new
     -- the set may be polled
     pub again : CanPollQueue future new
+
+  -- such a push; a set that grows makes a slot first if there was no room
+  abbrev pub TakesNumber : Bool → Flights F ℕ → F → ℕ → Flights F ℕ → Type 0
+  TakesNumber false old pushed number new = QueuesNumber old pushed number new
+  TakesNumber true old pushed number new = (wide : Flights F ℕ) × MakesRoom old wide × QueuesNumber wide pushed number new
 
   -- One poll, which takes the set from `old` to `new` and the task from `cx` to `left`. An output comes with the number
   -- of its future.

@@ -1,19 +1,17 @@
 //! Sets and queues in flight that are made of the items of an iterator.
-ghost use Rattle.std.specs.Prelude.{◌≡◌, ◌≤◌, All, IfErr, IfOk, OnOk, length, max, vec_len};
+ghost use Rattle.std.specs.Prelude.{◌≡◌, ◌≤◌, All, IfErr, IfOk, OnOk, false, length, vec_len};
 ghost use Rattle.std.specs.List.{FoldsTo};
 ghost use Rattle.futures_buffered_core.specs.Drawn.{Draws, IsFiniteSource, RefusesTooMany, items_of};
 ghost use Rattle.futures_buffered_table.specs.declared.answer.TheConstants.{MAX_CAPACITY};
 ghost use Rattle.futures_buffered_unordered.specs.Extended.{EachDrawn, HoldsAllOf, MakesFull};
 ghost use Rattle.futures_buffered_in_flight.specs.InFlight.{CanPollAll, FliesInOrder, IsNewInFlight, flight_slots};
-ghost use Rattle.futures_buffered_in_flight.specs.InFlightOrdered.{CanPollOrdered, FliesInTurn, IsNewInOrder};
-ghost use Rattle.futures_buffered_in_flight.specs.InFlightOrdered.{PushesBack, ordered_room};
-ghost use Rattle.futures_buffered_in_flight.specs.InFlightOrderedGrowing.{EntersBack, EntersInOrder};
+ghost use Rattle.futures_buffered_in_flight.specs.InFlightOrdered.{CanPollOrdered, EntersBack, EntersInOrder, FliesInTurn};
+ghost use Rattle.futures_buffered_in_flight.specs.InFlightOrdered.{HoldsInTurn, ordered_room};
+ghost use Rattle.futures_buffered_in_flight.specs.InFlightQueue.{KeepsRoom};
 ghost use Rattle.futures_buffered_table.specs.declared.answer.NewFault.TheVariants.{Memory};
 
-use crate::in_flight::{FuturesUnorderedBounded, FuturesUnorderedBy};
-use crate::in_flight_growing::FuturesUnordered;
-use crate::in_flight_ordered::FuturesOrderedBounded;
-use crate::in_flight_ordered_growing::FuturesOrdered;
+use crate::in_flight::{FuturesUnorderedBy, Kind};
+use crate::in_flight_ordered::{FuturesOrdered, FuturesOrderedBounded, FuturesOrderedBy};
 use futures::Future;
 use futures_buffered_core::ready_core::{MAX_CAPACITY, NewFault};
 use std::alloc::Global;
@@ -55,38 +53,27 @@ where
     }
 }
 
-// Pushes these futures into a new queue, each after the futures before it.
-#[tactic(auto, using(crate::proofs::FromIterLemmas::turns_none, crate::proofs::FromIterLemmas::turns_room))]
-fn push_in_turn<F, A>(queue: &mut FuturesOrderedBounded<F, A>, futures: Vec<F>)
+// Pushes these futures into a new queue, each after the futures before it. Returns `Memory` if a push is refused.
+#[tactic(auto, using(crate::proofs::InFlightQueueLemmas::room_self))]
+fn push_in_turn<F, A, K>(
+    queue: &mut FuturesOrderedBy<F, A, K>,
+    futures: Vec<F>,
+) -> Result<(), NewFault>
 where
     F: Future<Output = A>,
     A: Drop,
-    requires new { IsNewInOrder (max 1 (vec_len futures)) queue.old }
+    K: Kind,
+    requires new { length queue.old.entries ≡ 0 }
     requires held { CanPollOrdered F.Future queue.old }
     requires fit { All F.can_poll futures.items }
-    ensures pushed { FoldsTo (PushesBack F.Future) queue.old futures.items queue.new }
-    ensures one_each { length queue.new.entries ≡ vec_len futures }
-    ensures same_room { ordered_room queue.new ≡ ordered_room queue.old }
-    ensures again { CanPollOrdered F.Future queue.new }
-{
-    'futures: for future in futures {
-        queue.push_back(future);
-    }
-}
-
-// Pushes as `push_in_turn` does, into a growing queue. Returns `Memory` if a push is refused.
-fn push_each<F, A>(queue: &mut FuturesOrdered<F, A>, futures: Vec<F>) -> Result<(), NewFault>
-where
-    F: Future<Output = A>,
-    A: Drop,
-    requires held { CanPollOrdered F.Future queue.old }
-    requires fit { All F.can_poll futures.items }
-    ensures pushed { OnOk result (FoldsTo (EntersBack F.Future) queue.old futures.items queue.new) }
+    ensures pushed { OnOk result (FoldsTo (EntersBack F.Future K.GROWS) queue.old futures.items queue.new) }
+    ensures one_each { OnOk result (length queue.new.entries ≡ vec_len futures) }
+    ensures same_room { KeepsRoom K.GROWS queue.old.set queue.new.set }
     ensures memory { IfErr result (λ fault. fault ≡ Memory) }
     ensures again { CanPollOrdered F.Future queue.new }
 {
     'futures: for future in futures {
-        let Ok(()) = queue.push_back(future) else {
+        let Ok(()) = queue.add_back(future) else {
             return Err(NewFault::Memory);
         };
     }
@@ -94,8 +81,13 @@ where
 }
 
 impl<F: Future<Output: Drop>, K> FuturesUnorderedBy<F, (), K> {
-    // Makes a set of these futures without a free slot, with item k in slot k.
-    fn with_items<I: IntoIterator<Item = F>>(alloc: Global, iter: I) -> Result<Self, NewFault>
+    /// Makes a set of these futures without a free slot, with item k in slot k. Does not poll. A later push into a
+    /// growing set makes a slot.
+    ///
+    /// Returns `TooLarge` if the iterator returns more futures than there can be slots, and `Memory` if the futures or
+    /// the slots cannot be allocated. Then the futures that the iterator returned are dropped. If a further allocation
+    /// for a future fails, the future waits. Takes time and allocates in proportion to the number of futures.
+    pub fn from_iter<I: IntoIterator<Item = F>>(alloc: Global, iter: I) -> Result<Self, NewFault>
         requires finite { IsFiniteSource (items_of I.IntoIterator I.IntoIter.Iterator iter) }
         requires fit { EachDrawn (items_of I.IntoIterator I.IntoIter.Iterator iter) F.can_poll }
         ensures made { MakesFull (items_of I.IntoIterator I.IntoIter.Iterator iter) flight_slots
@@ -109,33 +101,22 @@ impl<F: Future<Output: Drop>, K> FuturesUnorderedBy<F, (), K> {
     }
 }
 
-impl<F: Future<Output: Drop>> FuturesUnorderedBounded<F> {
-    /// Makes a set of these futures without a free slot, with item k in slot k. Does not poll.
-    ///
-    /// Returns `TooLarge` if the iterator returns more futures than there can be slots, and `Memory` if the futures or
-    /// the slots cannot be allocated. Then the futures that the iterator returned are dropped. If a further allocation
-    /// for a future fails, the future waits. Takes time and allocates in proportion to the number of futures.
-    pub fn from_iter<I: IntoIterator<Item = F>>(alloc: Global, iter: I) -> Result<Self, NewFault>
+impl<F: Future<Output = A>, A: Drop, K: Kind> FuturesOrderedBy<F, A, K> {
+    // Makes a queue of these futures, in their order, with a slot for each, and with one slot at least.
+    #[tactic(auto, using(crate::proofs::FromIterLemmas::none_pushed, crate::proofs::FromIterLemmas::holds_in_turn, crate::proofs::FromIterLemmas::few_slots))]
+    fn with_items<I: IntoIterator<Item = F>>(alloc: Global, iter: I) -> Result<Self, NewFault>
         requires finite { IsFiniteSource (items_of I.IntoIterator I.IntoIter.Iterator iter) }
         requires fit { EachDrawn (items_of I.IntoIterator I.IntoIter.Iterator iter) F.can_poll }
-        ensures made { MakesFull (items_of I.IntoIterator I.IntoIter.Iterator iter) flight_slots
-            (FliesInOrder F.Future) result }
-        ensures can_poll { IfOk result (CanPollAll F.Future) }
+        ensures holds { IfOk result
+            (HoldsAllOf (items_of I.IntoIterator I.IntoIter.Iterator iter) (HoldsInTurn F.Future K.GROWS)) }
+        ensures fits { K.GROWS ≡ false → IfOk result (λ queue. ordered_room queue ≤ MAX_CAPACITY) }
+        ensures large { RefusesTooMany (items_of I.IntoIterator I.IntoIter.Iterator iter) result }
+        ensures can_poll { IfOk result (CanPollOrdered F.Future) }
     {
-        Self::with_items(alloc, iter)
-    }
-}
-
-impl<F: Future<Output: Drop>> FuturesUnordered<F> {
-    /// Makes a set as `FuturesUnorderedBounded::from_iter` does. A later push makes a slot if the set is full.
-    pub fn from_iter<I: IntoIterator<Item = F>>(alloc: Global, iter: I) -> Result<Self, NewFault>
-        requires finite { IsFiniteSource (items_of I.IntoIterator I.IntoIter.Iterator iter) }
-        requires fit { EachDrawn (items_of I.IntoIterator I.IntoIter.Iterator iter) F.can_poll }
-        ensures made { MakesFull (items_of I.IntoIterator I.IntoIter.Iterator iter) flight_slots
-            (FliesInOrder F.Future) result }
-        ensures can_poll { IfOk result (CanPollAll F.Future) }
-    {
-        Self::with_items(alloc, iter)
+        let futures = draw(alloc, iter)?;
+        let mut queue = Self::with_slots(alloc, futures.len().max(1))?;
+        push_in_turn(&mut queue, futures)?;
+        Ok(queue)
     }
 }
 
@@ -150,10 +131,7 @@ impl<F: Future<Output = A>, A: Drop> FuturesOrderedBounded<F, A> {
             (FliesInTurn F.Future) result }
         ensures can_poll { IfOk result (CanPollOrdered F.Future) }
     {
-        let futures = draw(alloc, iter)?;
-        let mut queue = FuturesOrderedBounded::new(alloc, futures.len().max(1))?;
-        push_in_turn(&mut queue, futures);
-        Ok(queue)
+        Self::with_items(alloc, iter)
     }
 }
 
@@ -169,9 +147,6 @@ impl<F: Future<Output = A>, A: Drop> FuturesOrdered<F, A> {
         ensures large { RefusesTooMany (items_of I.IntoIterator I.IntoIter.Iterator iter) result }
         ensures can_poll { IfOk result (CanPollOrdered F.Future) }
     {
-        let futures = draw(alloc, iter)?;
-        let mut queue = FuturesOrdered::with_capacity(alloc, futures.len())?;
-        push_each(&mut queue, futures)?;
-        Ok(queue)
+        Self::with_items(alloc, iter)
     }
 }

@@ -3,15 +3,13 @@
 //! A set owns the slots, and a `FuturesUnordered` of `futures`, which polls the futures that were pushed or woken. A
 //! `FuturesUnorderedBy` is of one of two kinds: `FuturesUnorderedBounded` has a fixed number of slots, and
 //! `FuturesUnordered` makes slots.
-ghost use Rattle.std.specs.Prelude.{◌≡◌, ◌+◌, ◌≤◌, ◌↔◌, ◌⊎◌, ◌<◌, [], IfOk, IfErr, OnErr, OnOk, IfSome, IfNone, IsSome};
-ghost use Rattle.std.specs.Prelude.{IsTrue, None, length};
-ghost use Rattle.futures_buffered_core.specs.Drawn.{IsFiniteSource, items_of};
+ghost use Rattle.std.specs.Prelude.{◌≡◌, ◌+◌, ◌≤◌, ◌↔◌, ◌⊎◌, ◌<◌, Bool, false, true, [], IfOk, IfErr, OnErr, OnOk, IfSome};
+ghost use Rattle.std.specs.Prelude.{IfNone, IsSome, IsTrue, None, length};
 ghost use Rattle.futures_buffered_core.specs.Made.{MakesSlots};
 ghost use Rattle.futures_buffered_core.specs.SlotMap.{held_count, no_slots, slot_count, with_slot_freed};
-ghost use Rattle.futures_buffered_unordered.specs.Extended.{EachDrawn, Extends};
 ghost use Rattle.futures_buffered_in_flight.specs.InFlight.{AnyRunGives, CanPollAll, CanPollRuns, CanPollWaiting};
 ghost use Rattle.futures_buffered_in_flight.specs.InFlight.{CancelsOrNone, EntersAt, HasNoRoom, IsHeld, IsNewInFlight};
-ghost use Rattle.futures_buffered_in_flight.specs.InFlight.{PushesInFlight, RefusesInFlight, WentIn};
+ghost use Rattle.futures_buffered_in_flight.specs.InFlight.{PushesInFlight};
 ghost use Rattle.futures_buffered_in_flight.specs.InFlight.{flight_slots, room_taken, run_count, runs_in};
 ghost use Rattle.futures_buffered_in_flight.specs.InFlightTurns.{Flies};
 
@@ -40,11 +38,31 @@ pub struct Came<A, T = ()> {
     pub output: A,
 }
 
-/// The kind of a set with a fixed number of slots.
+/// A kind of sets and queues.
+pub trait Kind {
+    ghost GROWS: { Bool };
+
+    /// Whether a push makes a slot if there is none.
+    const GROWS: bool;
+}
+
+/// The kind with a fixed number of slots.
 pub struct Bounded;
 
-/// The kind of a set in which a push makes a slot if the set is full.
+/// The kind in which a push makes a slot if there is none.
 pub struct Growing;
+
+impl Kind for Bounded {
+    ghost GROWS = { false };
+
+    const GROWS: bool = false;
+}
+
+impl Kind for Growing {
+    ghost GROWS = { true };
+
+    const GROWS: bool = true;
+}
 
 /// Futures of the crate `futures`, at most as many at a time as there are slots. Each can be cancelled by its key.
 ///
@@ -383,12 +401,9 @@ impl<F: Future<Output: Drop>, T: Drop> FuturesUnorderedBounded<F, T> {
     pub fn try_push_tagged(&mut self, future: F, tag: T) -> Result<Key, (F, T)>
         requires held { CanPollAll F.Future self.old }
         requires fit { F.can_poll future }
-        ensures { PushesInFlight F.Future self.old future tag (future, tag) result self.new }
+        ensures { PushesInFlight F.Future false self.old future tag (future, tag) result self.new }
     {
-        if self.is_full() {
-            return Err((future, tag));
-        }
-        Ok(self.push_any(future, tag))
+        self.admit(future, tag)
     }
 }
 
@@ -407,30 +422,8 @@ impl<F: Future<Output: Drop>> FuturesUnorderedBounded<F> {
     pub fn try_push(&mut self, future: F) -> Result<Key, F>
         requires held { CanPollAll F.Future self.old }
         requires fit { F.can_poll future }
-        ensures { PushesInFlight F.Future self.old future tt future result self.new }
+        ensures { PushesInFlight F.Future false self.old future tt future result self.new }
     {
-        if self.is_full() {
-            return Err(future);
-        }
-        Ok(self.push_any(future, ()))
-    }
-
-    /// Pushes each item, in order, as `try_push` does. Returns the first item that is refused. The items before it
-    /// stay, and the iterator is not called again.
-    pub fn extend<I: IntoIterator<Item = F>>(&mut self, iter: I) -> Result<(), F>
-        requires finite { IsFiniteSource (items_of I.IntoIterator I.IntoIter.Iterator iter) }
-        requires held { CanPollAll F.Future self.old }
-        requires each { EachDrawn (items_of I.IntoIterator I.IntoIter.Iterator iter) F.can_poll }
-        ensures extends { Extends (items_of I.IntoIterator I.IntoIter.Iterator iter)
-            (WentIn F.Future tt) RefusesInFlight self.old result self.new }
-        ensures capacity { flight_slots self.new ≡ flight_slots self.old }
-        ensures again { CanPollAll F.Future self.new }
-    {
-        for future in iter {
-            if let Err(back) = self.try_push(future) {
-                return Err(back);
-            }
-        }
-        Ok(())
+        self.admit_untagged(future)
     }
 }

@@ -1,11 +1,11 @@
 //! The set as an adaptor or an ordered queue holds it: a push accepts each future while a slot is free.
-ghost use Rattle.std.specs.Prelude.{◌≡◌, ◌<◌, OnOk, OnErr, IfErr, IsErr};
-ghost use Rattle.futures_buffered_in_flight.specs.InFlightQueue.{CanPollQueue, IsAtItsBound, PollsByNumber, PollsQueued};
-ghost use Rattle.futures_buffered_in_flight.specs.InFlightQueue.{PushesQueued, QueuesNumber, SameRoom, flight_count};
-ghost use Rattle.futures_buffered_in_flight.specs.InFlightQueue.{flights_with};
-ghost use Rattle.futures_buffered_in_flight.specs.InFlight.{flight_slots};
+ghost use Rattle.std.specs.Prelude.{◌≡◌, ◌<◌, IsTrue, OnOk, OnErr, IfErr, IsErr, false, true};
+ghost use Rattle.futures_buffered_in_flight.specs.InFlight.{MakesRoom, flight_slots};
+ghost use Rattle.futures_buffered_in_flight.specs.InFlightQueue.{CanPollQueue, HasGrown, MayRefuseNumber, PollsByNumber};
+ghost use Rattle.futures_buffered_in_flight.specs.InFlightQueue.{PollsQueued, PushesQueued, QueuesNumber};
+ghost use Rattle.futures_buffered_in_flight.specs.InFlightQueue.{RefusesNumbers, TakesNumber, flight_count, flights_with};
 
-use crate::in_flight::{FuturesUnorderedBounded, FuturesUnorderedBy};
+use crate::in_flight::{FuturesUnorderedBounded, FuturesUnorderedBy, Kind};
 use futures::Future;
 use futures::task::{Context, Poll};
 use futures_buffered_ordered::numbered::Numbered;
@@ -71,11 +71,32 @@ impl<F: Future<Output: Drop>, K> FuturesUnorderedBy<F, usize, K> {
     }
 }
 
-impl<F: Future<Output: Drop>> NumberedSet for FuturesUnorderedBounded<F, usize> {
-    ghost use Rattle.std.proofs.Common.{◌≡◌, OnOk, OnErr, IfErr, IsErr, refl, ◌∙◌};
+impl<F: Future<Output: Drop>, K: Kind> FuturesUnorderedBy<F, usize, K> {
+    // Makes a slot if the set grows and is full. Returns whether a slot is free then.
+    #[tactic(auto, using(crate::proofs::InFlightQueueLemmas::may_refuse_grown, crate::proofs::InFlightQueueLemmas::may_refuse_bounded, crate::proofs::InFlightQueueLemmas::refuses_grown, crate::proofs::InFlightQueueLemmas::refuses_bounded, crate::proofs::InFlightQueueLemmas::wide_can_queue))]
+    fn make_slot_free(&mut self) -> bool
+        requires { CanPollQueue F.Future self.old }
+        ensures grown { IsTrue result → K.GROWS ≡ true → MakesRoom self.old self.new }
+        ensures bounded { K.GROWS ≡ false → self.new ≡ self.old }
+        ensures room { IsTrue result → flight_count self.new < flight_slots self.new }
+        ensures none { result ≡ false → MayRefuseNumber K.GROWS self.old × (self.new ≡ self.old) }
+        ensures full { RefusesNumbers K.GROWS self.old → result ≡ false }
+        ensures again { CanPollQueue F.Future self.new }
+    {
+        if K::GROWS {
+            self.make_room()
+        } else {
+            self.len() < self.capacity()
+        }
+    }
+}
+
+impl<F: Future<Output: Drop>, K: Kind> NumberedSet for FuturesUnorderedBy<F, usize, K> {
+    ghost use Rattle.std.proofs.Common.{◌≡◌, OnOk, OnErr, IfErr, IsErr};
+    ghost use Rattle.std.proofs.Math.Nat.{le_refl, le_trans};
     ghost use Rattle.futures_buffered_ordered.specs.Numbered.{PushesInto};
-    ghost use Rattle.futures_buffered_in_flight.specs.InFlightQueue.{CanPollQueue, QueuesNumber, IsAtItsBound};
-    ghost use Rattle.futures_buffered_in_flight.specs.InFlightQueue.{SameRoom, flight_count, flights_with};
+    ghost use Rattle.futures_buffered_in_flight.specs.InFlightQueue.{CanPollQueue, HasGrown, MayRefuseNumber};
+    ghost use Rattle.futures_buffered_in_flight.specs.InFlightQueue.{RefusesNumbers, TakesNumber, flight_count, flights_with};
 
     type Future = F;
 
@@ -83,42 +104,48 @@ impl<F: Future<Output: Drop>> NumberedSet for FuturesUnorderedBounded<F, usize> 
 
     ghost with_number = { flights_with };
 
-    ghost pushes = { QueuesNumber F.Future };
+    ghost pushes = { TakesNumber F.Future K.GROWS };
 
-    ghost may_refuse = { IsAtItsBound };
+    ghost may_refuse = { MayRefuseNumber K.GROWS };
 
-    ghost refuses = { IsAtItsBound };
+    ghost refuses = { RefusesNumbers K.GROWS };
 
-    ghost keeps = { SameRoom };
+    ghost keeps = { HasGrown };
 
     ghost takes = { CanPollQueue F.Future };
 
     ghost is_fit = { F.can_poll };
 
+    #[tactic(auto, using(crate::proofs::InFlightQueueLemmas::refuses_grown, crate::proofs::InFlightQueueLemmas::refuses_bounded))]
     fn refuses_all(&self) -> bool {
-        self.capacity() <= self.len()
+        if K::GROWS {
+            self.next == u64::MAX
+        } else {
+            self.capacity() <= self.len()
+        }
     }
 
+    #[tactic(auto, using(crate::proofs::InFlightQueueLemmas::taken))]
     fn push_numbered(&mut self, value: Numbered<F>) -> Result<(), Numbered<F>>
         requires held { CanPollQueue F.Future self.old }
         requires fit { F.can_poll value.future }
-        ensures pushed { OnOk result (PushesInto (QueuesNumber F.Future) flight_count flights_with
-            SameRoom self.old value self.new) }
+        ensures pushed { OnOk result (PushesInto (TakesNumber F.Future K.GROWS) flight_count flights_with
+            HasGrown self.old value self.new) }
         ensures back { IfErr result (λ back. (back ≡ value) × (self.new ≡ self.old)) }
-        ensures room { OnErr result (IsAtItsBound self.old) }
-        ensures full { IsAtItsBound self.old → IsErr result }
+        ensures room { OnErr result (MayRefuseNumber K.GROWS self.old) }
+        ensures full { RefusesNumbers K.GROWS self.old → IsErr result }
         ensures again { CanPollQueue F.Future self.new }
     {
-        if self.capacity() <= self.len() {
+        if !self.make_slot_free() {
             return Err(value);
         }
         self.push_with_number(value);
         Ok(())
     }
 
-    ghost keeps_self = { λ a. refl };
+    ghost keeps_self = { λ a. le_refl _ };
 
-    ghost keeps_on = { λ a b c first then. then ∙ first };
+    ghost keeps_on = { λ a b c first then. le_trans first then };
 }
 
 impl<F: Future<Output: Drop>, K> NumberedPolls<PollFuture> for FuturesUnorderedBy<F, usize, K> {
@@ -134,7 +161,8 @@ impl<F: Future<Output: Drop>, K> NumberedPolls<PollFuture> for FuturesUnorderedB
     ghost needs = { FlightsWaitAt };
 }
 
-impl<F: Future<Output: Drop>> PollNumberedSet<PollFuture> for FuturesUnorderedBounded<F, usize> {
+impl<F: Future<Output: Drop>, K: Kind> PollNumberedSet<PollFuture>
+    for FuturesUnorderedBy<F, usize, K> {
     #[tactic(auto, using(crate::proofs::InFlightOrderedLemmas::polls_set))]
     fn poll_numbered(
         &mut self,

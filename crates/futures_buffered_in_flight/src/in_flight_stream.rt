@@ -2,8 +2,7 @@
 ghost use Rattle.futures_buffered_core.specs.SlotMap.{held_count};
 ghost use Rattle.futures_buffered_in_flight.specs.InFlight.{CanPollAll, ComesFromSlots, FlightsWaitAt};
 
-use crate::in_flight::{FuturesUnorderedBounded, FuturesUnorderedBy};
-use crate::in_flight_growing::FuturesUnordered;
+use crate::in_flight::{FuturesUnorderedBy, Kind};
 use futures::task::{Context, Poll};
 use futures::{Future, Stream};
 use futures_buffered_unordered::fused::{FusedStream, SizeHint};
@@ -50,18 +49,14 @@ impl<F: Drop, T: Drop, K> SizeHint for FuturesUnorderedBy<F, T, K> {
 }
 
 /// Prints the number of futures held.
-impl<F: Drop, T: Drop> fmt::Debug for FuturesUnorderedBounded<F, T> {
+impl<F: Drop, T: Drop, K: Kind> fmt::Debug for FuturesUnorderedBy<F, T, K> {
     fn fmt<W: fmt::Write>(&self, f: &mut fmt::Formatter<W>) -> fmt::Result {
-        f.debug_struct("FuturesUnorderedBounded")
-            .field("len", &self.len())
-            .finish_non_exhaustive()
-    }
-}
-
-/// Prints the number of futures held.
-impl<F: Drop, T: Drop> fmt::Debug for FuturesUnordered<F, T> {
-    fn fmt<W: fmt::Write>(&self, f: &mut fmt::Formatter<W>) -> fmt::Result {
-        f.debug_struct("FuturesUnordered")
+        let name = if K::GROWS {
+            "FuturesUnordered"
+        } else {
+            "FuturesUnorderedBounded"
+        };
+        f.debug_struct(name)
             .field("len", &self.len())
             .finish_non_exhaustive()
     }

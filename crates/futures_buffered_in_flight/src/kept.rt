@@ -1,19 +1,15 @@
 //! Sets and queues in flight that keep that they may be polled, so that a loop need not say so.
-ghost use Rattle.std.specs.Prelude.{◌≡◌, [], None};
+ghost use Rattle.std.specs.Prelude.{◌≡◌, [], None, false, true};
 ghost use Rattle.futures_buffered_core.specs.SlotMap.{no_slots, slot_count};
 ghost use Rattle.futures_buffered_in_flight.specs.InFlight.{CancelsOrNone, ComesFromSlots, EntersAt, FlightsWaitAt};
-ghost use Rattle.futures_buffered_in_flight.specs.InFlight.{HasNoRoom, IsNewInFlight, PollsInFlight, PushesInFlight, flight_slots};
-ghost use Rattle.futures_buffered_in_flight.specs.InFlightGrowing.{PushesGrowing};
-ghost use Rattle.futures_buffered_in_flight.specs.InFlightOrdered.{ComesOfEach, OrderedWaitsAt, PollsInTurn};
-ghost use Rattle.futures_buffered_in_flight.specs.InFlightOrdered.{IsNewInOrder, PushesBack, PushesFront};
+ghost use Rattle.futures_buffered_in_flight.specs.InFlight.{HasNoRoom, PollsInFlight, PushesInFlight, flight_slots};
+ghost use Rattle.futures_buffered_in_flight.specs.InFlightOrdered.{AnswersInTurn, ComesOfEach, EntersBack, EntersFront};
+ghost use Rattle.futures_buffered_in_flight.specs.InFlightOrdered.{IsCleared, OrderedWaitsAt, PushesBack, PushesFront};
 ghost use Rattle.futures_buffered_in_flight.specs.InFlightOrdered.{PushesOrComesBack};
-ghost use Rattle.futures_buffered_in_flight.specs.InFlightOrderedGrowing.{EntersBack, EntersFront};
-ghost use Rattle.futures_buffered_in_flight.specs.InFlightOrderedGrowing.{EntersOrComesBack, PollsGrowingInTurn};
 
-use crate::in_flight::{Came, FuturesUnorderedBounded, FuturesUnorderedBy};
+use crate::in_flight::{Came, FuturesUnorderedBounded, FuturesUnorderedBy, Kind};
 use crate::in_flight_growing::FuturesUnordered;
-use crate::in_flight_ordered::FuturesOrderedBounded;
-use crate::in_flight_ordered_growing::FuturesOrdered;
+use crate::in_flight_ordered::{FuturesOrdered, FuturesOrderedBounded, FuturesOrderedBy};
 use crate::run::Key;
 use futures::task::{Context, Poll};
 use futures::{Future, Stream};
@@ -75,7 +71,7 @@ impl<F: Future<Output: Drop>> Kept<FuturesUnorderedBounded<F>> {
     /// Pushes as `FuturesUnorderedBounded::try_push` does.
     pub fn try_push(&mut self, future: F) -> Result<Key, F>
         requires { F.can_poll future }
-        ensures { PushesInFlight F.Future self.old future tt future result self.new }
+        ensures { PushesInFlight F.Future false self.old future tt future result self.new }
     {
         self.held.try_push(future)
     }
@@ -85,7 +81,7 @@ impl<F: Future<Output: Drop>, T: Drop> Kept<FuturesUnorderedBounded<F, T>> {
     /// Pushes as `FuturesUnorderedBounded::try_push_tagged` does.
     pub fn try_push_tagged(&mut self, future: F, tag: T) -> Result<Key, (F, T)>
         requires { F.can_poll future }
-        ensures { PushesInFlight F.Future self.old future tag (future, tag) result self.new }
+        ensures { PushesInFlight F.Future false self.old future tag (future, tag) result self.new }
     {
         self.held.try_push_tagged(future, tag)
     }
@@ -95,7 +91,7 @@ impl<F: Future<Output: Drop>> Kept<FuturesUnordered<F>> {
     /// Pushes as `FuturesUnordered::push` does.
     pub fn push(&mut self, future: F) -> Result<Key, F>
         requires { F.can_poll future }
-        ensures { PushesGrowing F.Future self.old future tt future result self.new }
+        ensures { PushesInFlight F.Future true self.old future tt future result self.new }
     {
         self.held.push(future)
     }
@@ -105,7 +101,7 @@ impl<F: Future<Output: Drop>, T: Drop> Kept<FuturesUnordered<F, T>> {
     /// Pushes as `FuturesUnordered::push_tagged` does.
     pub fn push_tagged(&mut self, future: F, tag: T) -> Result<Key, (F, T)>
         requires { F.can_poll future }
-        ensures { PushesGrowing F.Future self.old future tag (future, tag) result self.new }
+        ensures { PushesInFlight F.Future true self.old future tag (future, tag) result self.new }
     {
         self.held.push_tagged(future, tag)
     }
@@ -153,11 +149,21 @@ impl<F: Future<Output: Drop>, T: Drop, K> Stream for Kept<FuturesUnorderedBy<F, 
     }
 }
 
+impl<F: Future<Output = A>, A: Drop, K: Kind> Kept<FuturesOrderedBy<F, A, K>> {
+    /// Drops each future and each output as `FuturesOrderedBy::clear` does.
+    pub fn clear(&mut self)
+        ensures none { IsCleared K.GROWS self.old self.new }
+        ensures same_room { flight_slots self.new.set ≡ flight_slots self.old.set }
+    {
+        self.held.clear();
+    }
+}
+
 impl<F: Future<Output = A>, A: Drop> Kept<FuturesOrderedBounded<F, A>> {
     /// Adds the future as `FuturesOrderedBounded::try_push_back` does.
     pub fn try_push_back(&mut self, future: F) -> Result<(), F>
         requires { F.can_poll future }
-        ensures { PushesOrComesBack F.Future (PushesBack F.Future) self.old future result self.new }
+        ensures { PushesOrComesBack F.Future false (PushesBack F.Future) self.old future result self.new }
     {
         self.held.try_push_back(future)
     }
@@ -165,32 +171,9 @@ impl<F: Future<Output = A>, A: Drop> Kept<FuturesOrderedBounded<F, A>> {
     /// Adds the future as `FuturesOrderedBounded::try_push_front` does.
     pub fn try_push_front(&mut self, future: F) -> Result<(), F>
         requires { F.can_poll future }
-        ensures { PushesOrComesBack F.Future (PushesFront F.Future) self.old future result self.new }
+        ensures { PushesOrComesBack F.Future false (PushesFront F.Future) self.old future result self.new }
     {
         self.held.try_push_front(future)
-    }
-
-    /// Drops each future and each output as `FuturesOrderedBounded::clear` does.
-    pub fn clear(&mut self)
-        ensures none { IsNewInOrder (flight_slots self.old.set) self.new }
-        ensures same_room { flight_slots self.new.set ≡ flight_slots self.old.set }
-    {
-        self.held.clear();
-    }
-}
-
-impl<F: Future<Output = A>, A: Drop> Stream for Kept<FuturesOrderedBounded<F, A>> {
-    type Item = A;
-
-    ghost needs = { OrderedWaitsAt };
-
-    ghost yields = { ComesOfEach F.Future };
-
-    /// Polls as `FuturesOrderedBounded::poll_output` does.
-    fn poll_next(&mut self, cx: &mut Context<'_>) -> Poll<Option<A>>
-        ensures { PollsInTurn F.Future self.old result self.new cx.old cx.new }
-    {
-        self.held.poll_output(cx)
     }
 }
 
@@ -198,7 +181,7 @@ impl<F: Future<Output = A>, A: Drop> Kept<FuturesOrdered<F, A>> {
     /// Adds the future as `FuturesOrdered::push_back` does.
     pub fn push_back(&mut self, future: F) -> Result<(), F>
         requires { F.can_poll future }
-        ensures { EntersOrComesBack F.Future (EntersBack F.Future) self.old future result self.new }
+        ensures { PushesOrComesBack F.Future true (EntersBack F.Future true) self.old future result self.new }
     {
         self.held.push_back(future)
     }
@@ -206,30 +189,22 @@ impl<F: Future<Output = A>, A: Drop> Kept<FuturesOrdered<F, A>> {
     /// Adds the future as `FuturesOrdered::push_front` does.
     pub fn push_front(&mut self, future: F) -> Result<(), F>
         requires { F.can_poll future }
-        ensures { EntersOrComesBack F.Future (EntersFront F.Future) self.old future result self.new }
+        ensures { PushesOrComesBack F.Future true (EntersFront F.Future true) self.old future result self.new }
     {
         self.held.push_front(future)
     }
-
-    /// Drops each future and each output as `FuturesOrdered::clear` does.
-    pub fn clear(&mut self)
-        ensures none { (self.new.entries ≡ []) × IsNewInFlight (flight_slots self.old.set) self.new.set }
-        ensures same_room { flight_slots self.new.set ≡ flight_slots self.old.set }
-    {
-        self.held.clear();
-    }
 }
 
-impl<F: Future<Output = A>, A: Drop> Stream for Kept<FuturesOrdered<F, A>> {
+impl<F: Future<Output = A>, A: Drop, K: Kind> Stream for Kept<FuturesOrderedBy<F, A, K>> {
     type Item = A;
 
     ghost needs = { OrderedWaitsAt };
 
     ghost yields = { ComesOfEach F.Future };
 
-    /// Polls as `FuturesOrdered::poll_output` does.
+    /// Polls as `FuturesOrderedBy::poll_output` does.
     fn poll_next(&mut self, cx: &mut Context<'_>) -> Poll<Option<A>>
-        ensures { PollsGrowingInTurn F.Future self.old result self.new cx.old cx.new }
+        ensures { AnswersInTurn F.Future K.GROWS self.old result self.new cx.old cx.new }
     {
         self.held.poll_output(cx)
     }

@@ -9,9 +9,8 @@
 //! - `in_flight`: `FuturesUnorderedBounded`, at most n futures, each with a key by which it can be cancelled;
 //!   `in_flight_growing` has `FuturesUnordered`, the set of any number, and `in_flight_polls` the polls of both;
 //!   `in_flight_stream` has both as a stream, and `in_flight_queue` both as an adaptor or a queue holds them.
-//! - `in_flight_ordered`: `FuturesOrderedBounded`, a queue with pushes at both ends, whose outputs come from the front;
-//!   `in_flight_ordered_growing` has `FuturesOrdered`, the queue of any number, and `in_flight_ordered_stream` both as
-//!   a stream.
+//! - `in_flight_ordered`: `FuturesOrderedBounded` and `FuturesOrdered`, queues with pushes at both ends, whose outputs
+//!   come from the front; `in_flight_ordered_stream` has both as a stream.
 //! - `from_iter`: sets and queues that are made of the items of an iterator.
 //! - `kept`: `Kept`, which keeps that a set or a queue may be polled, for loops by hand.
 //! - `waiting`: `Waiting`, which holds a set or an ordered queue while a task waits for its next output, and then
@@ -23,7 +22,6 @@ mod from_iter;
 pub mod in_flight;
 pub mod in_flight_growing;
 pub mod in_flight_ordered;
-pub mod in_flight_ordered_growing;
 mod in_flight_ordered_stream;
 mod in_flight_polls;
 mod in_flight_queue;
@@ -34,8 +32,7 @@ pub mod waiting;
 
 pub use in_flight::{Came, FuturesUnorderedBounded};
 pub use in_flight_growing::FuturesUnordered;
-pub use in_flight_ordered::FuturesOrderedBounded;
-pub use in_flight_ordered_growing::FuturesOrdered;
+pub use in_flight_ordered::{FuturesOrdered, FuturesOrderedBounded};
 pub use kept::Kept;
 pub use run::Key;
 pub use waiting::Waiting;

@@ -3,9 +3,8 @@ ghost use Rattle.std.specs.Prelude.{◌≡◌, Some, IfOk, IsSomeAnd};
 ghost use Rattle.futures_buffered_in_flight.specs.InFlight.{CameInFlight, CanPollAll, FlightsWaitAt};
 ghost use Rattle.futures_buffered_in_flight.specs.InFlightOrdered.{CameInTurn, CanPollOrdered, OrderedWaitsAt};
 
-use crate::in_flight::{Came, FuturesUnorderedBy};
-use crate::in_flight_ordered::FuturesOrderedBounded;
-use crate::in_flight_ordered_growing::FuturesOrdered;
+use crate::in_flight::{Came, FuturesUnorderedBy, Kind};
+use crate::in_flight_ordered::FuturesOrderedBy;
 use futures::Future;
 use futures::executor::block_on;
 use futures::task::{Context, Poll};
@@ -68,8 +67,8 @@ impl<F: Future<Output: Drop>, T: Drop, K> FuturesUnorderedBy<F, T, K> {
     }
 }
 
-impl<F: Future<Output = A>, A: Drop> Future for Waiting<FuturesOrderedBounded<F, A>> {
-    type Output = (Option<A>, FuturesOrderedBounded<F, A>);
+impl<F: Future<Output = A>, A: Drop, K: Kind> Future for Waiting<FuturesOrderedBy<F, A, K>> {
+    type Output = (Option<A>, FuturesOrderedBy<F, A, K>);
 
     // A queue that was returned is not there to be polled.
     ghost can_poll = { λ waiting. IsSomeAnd waiting.held (CanPollOrdered F.Future) };
@@ -91,7 +90,7 @@ impl<F: Future<Output = A>, A: Drop> Future for Waiting<FuturesOrderedBounded<F,
     }
 }
 
-impl<F: Future<Output = A>, A: Drop> FuturesOrderedBounded<F, A> {
+impl<F: Future<Output = A>, A: Drop, K: Kind> FuturesOrderedBy<F, A, K> {
     /// Returns a future of the output of the front, or of `None` if there is no entry. That future returns the queue
     /// too.
     ///
@@ -104,53 +103,7 @@ impl<F: Future<Output = A>, A: Drop> FuturesOrderedBounded<F, A> {
 
     /// Blocks the thread until the output of the front or `None` comes, and returns it with the queue. Drives no socket
     /// and no timer. If the thread cannot wait, drops the queue and returns an error.
-    pub fn wait<R>(self, rt: &R) -> io::Result<(Option<A>, FuturesOrderedBounded<F, A>)>
-    where
-        R: Wait + RandomSource + AllocGlobal,
-        requires { CanPollOrdered F.Future self }
-        ensures { IfOk result (λ given. CameInTurn F.Future self given.0 given.1) }
-    {
-        block_on(rt, self.into_next())
-    }
-}
-
-impl<F: Future<Output = A>, A: Drop> Future for Waiting<FuturesOrdered<F, A>> {
-    type Output = (Option<A>, FuturesOrdered<F, A>);
-
-    // A queue that was returned is not there to be polled.
-    ghost can_poll = { λ waiting. IsSomeAnd waiting.held (CanPollOrdered F.Future) };
-
-    ghost needs = { λ waiting place. IsSomeAnd waiting.held (λ queue. OrderedWaitsAt queue place) };
-
-    ghost gives = { λ waiting given. IsSomeAnd waiting.held
-        (λ queue. CameInTurn F.Future queue given.0 given.1) };
-
-    #[tactic(auto, using(crate::proofs::InFlightOrderedGrowingLemmas::came_growing_at_once, crate::proofs::InFlightOrderedGrowingLemmas::came_growing_later))]
-    fn poll(&mut self, cx: &mut Context<'_>) -> Poll<Self::Output> {
-        let Some(queue) = &mut self.held else {
-            unreachable!()
-        };
-        let Poll::Ready(came) = queue.poll_output(cx) else {
-            return Poll::Pending;
-        };
-        Poll::Ready((came, self.held.take().unwrap()))
-    }
-}
-
-impl<F: Future<Output = A>, A: Drop> FuturesOrdered<F, A> {
-    /// Returns a future of the output of the front, or of `None` if there is no entry. That future returns the queue
-    /// too.
-    ///
-    /// Any executor runs it, as `runtime.block_on(&rt, queue.into_next())` of `tokio` does.
-    pub fn into_next(self) -> Waiting<Self>
-        ensures { result.held ≡ Some self }
-    {
-        Waiting { held: Some(self) }
-    }
-
-    /// Blocks the thread until the output of the front or `None` comes, and returns it with the queue. Drives no socket
-    /// and no timer. If the thread cannot wait, drops the queue and returns an error.
-    pub fn wait<R>(self, rt: &R) -> io::Result<(Option<A>, FuturesOrdered<F, A>)>
+    pub fn wait<R>(self, rt: &R) -> io::Result<(Option<A>, FuturesOrderedBy<F, A, K>)>
     where
         R: Wait + RandomSource + AllocGlobal,
         requires { CanPollOrdered F.Future self }

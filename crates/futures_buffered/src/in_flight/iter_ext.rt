@@ -3,8 +3,8 @@ ghost use Rattle.std.specs.Prelude.{◌≡◌, ◌^◌, ◌-◌, IfOk};
 ghost use Rattle.futures_buffered_core.specs.Drawn.{IsFiniteSource, items_of};
 ghost use Rattle.futures_buffered_unordered.specs.Extended.{EachDrawn, HoldsAllOf, MakesFull};
 ghost use Rattle.futures_buffered_in_flight.specs.InFlight.{CanPollAll, FliesInOrder, flight_slots};
-ghost use Rattle.futures_buffered_in_flight.specs.InFlightOrdered.{CanPollOrdered, FliesInTurn, ordered_room};
-ghost use Rattle.futures_buffered_in_flight.specs.InFlightOrderedGrowing.{EntersInOrder};
+ghost use Rattle.futures_buffered_in_flight.specs.InFlightOrdered.{CanPollOrdered, EntersInOrder, FliesInTurn};
+ghost use Rattle.futures_buffered_in_flight.specs.InFlightOrdered.{ordered_room};
 ghost use Rattle.futures_buffered_joins.specs.InFlightJoin.{CanPollFlying, MakesFlying};
 ghost use Rattle.futures_buffered_merges.specs.InFlightMerge.{HoldsStreams};
 

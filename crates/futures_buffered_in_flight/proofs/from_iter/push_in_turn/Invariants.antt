@@ -1,12 +1,13 @@
 use Rattle.std.proofs.Common.{◌≡◌, ◌++◌, length}
 use Rattle.std.specs.List.{FoldsTo}
 use Rattle.std.specs.Vec.Iter.{into_iter_items}
-use Rattle.futures_buffered_in_flight.specs.InFlightOrdered.{CanPollOrdered, PushesBack, ordered_room}
+use Rattle.futures_buffered_in_flight.specs.InFlightOrdered.{CanPollOrdered, EntersBack}
+use Rattle.futures_buffered_in_flight.specs.InFlightQueue.{KeepsRoom}
 use Rattle.futures_buffered_in_flight.proofs.from_iter.push_in_turn.Given as goal
 
 abbrev pub invariant-futures : goal.invariant-futures
-invariant-futures g l = FoldsTo (PushesBack g.F.Future) l.fn.queue l.yielded l.queue
+invariant-futures g l = FoldsTo (EntersBack g.F.Future g.K.Kind.GROWS) l.fn.queue l.yielded l.queue
     × (length l.queue.entries ≡ length l.yielded)
-    × (ordered_room l.queue ≡ ordered_room l.fn.queue)
+    × KeepsRoom g.K.Kind.GROWS l.fn.queue.set l.queue.set
     × CanPollOrdered g.F.Future l.queue
     × (l.fn.futures.items ≡ l.yielded ++ into_iter_items l.future-iterator)

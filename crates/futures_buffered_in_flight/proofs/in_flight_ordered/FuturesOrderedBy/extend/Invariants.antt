@@ -1,0 +1,11 @@
+use Rattle.std.specs.List.{FoldsTo}
+use Rattle.futures_buffered_in_flight.specs.InFlightOrdered.{CanPollOrdered, EntersBack}
+use Rattle.futures_buffered_in_flight.specs.InFlightQueue.{KeepsRoom}
+use Rattle.futures_buffered_in_flight.proofs.in_flight_ordered.FuturesOrderedBy.extend.Given as goal
+
+abbrev pub invariant-loop-future : goal.invariant-loop-future
+invariant-loop-future g l = (goal.iterator-loop-future g).can_next l.future-iterator
+    × (goal.iterator-loop-future g).is_finite l.future-iterator
+    × FoldsTo (EntersBack g.F.Future g.K.Kind.GROWS) l.fn.self l.yielded l.self
+    × CanPollOrdered g.F.Future l.self
+    × KeepsRoom g.K.Kind.GROWS l.fn.self.set l.self.set
