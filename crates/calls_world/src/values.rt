@@ -5,8 +5,8 @@ use crate::shared_world::SharedWorld;
 use crate::step::Action;
 use futures::task::Poll;
 use futures_buffered_core::ready_shared::SharedWaker;
-use futures_buffered_unordered::slot_stream::SlotStream;
 use futures_buffered_unordered::slot_future::SlotFuture;
+use futures_buffered_unordered::slot_stream::SlotStream;
 
 /// A future or a stream that acts after a script.
 pub trait Scripted: Drop {

@@ -13,11 +13,10 @@ ghost use Rattle.futures_buffered.specs.BufferedOrdered.{queue_slots};
 use futures_buffered_core::ready_core::NewFault;
 use futures_buffered_core::ready_shared::{SharedReady, SharedWaker};
 use futures_buffered_joins::{JoinAll, TryJoinAll};
-use futures_buffered_unordered::{MergeBounded, MergeUnbounded, SlotStream};
 use futures_buffered_ordered::{FuturesOrdered, FuturesOrderedBounded};
-use futures_buffered_unordered::SlotFuture;
 use futures_buffered_unordered::futures_unordered::{FIRST_GROUP, FuturesUnordered};
 use futures_buffered_unordered::futures_unordered_bounded::{FuturesUnorderedBounded, POLL_LIMIT};
+use futures_buffered_unordered::{MergeBounded, MergeUnbounded, SlotFuture, SlotStream};
 use std::alloc::Global;
 
 /// Sets, queues, joins and merges of what an iterator returns, if the iterator ends.

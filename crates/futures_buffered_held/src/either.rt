@@ -1,7 +1,7 @@
 //! One of two futures, or of two streams.
 use futures::task::Poll;
-use futures_buffered_unordered::slot_stream::SlotStream;
 use futures_buffered_unordered::slot_future::{SlotFuture, SlotHandle};
+use futures_buffered_unordered::slot_stream::SlotStream;
 
 /// A value of either type. As a future it returns the output of the future that it holds; as a stream it returns the
 /// items of the stream that it holds.

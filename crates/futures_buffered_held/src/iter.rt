@@ -1,7 +1,7 @@
 //! The items of an iterator as a stream.
 use futures::task::Poll;
-use futures_buffered_unordered::slot_stream::SlotStream;
 use futures_buffered_unordered::slot_future::SlotHandle;
+use futures_buffered_unordered::slot_stream::SlotStream;
 use std::marker::Model;
 
 /// A stream that returns the next item of its iterator at each poll.

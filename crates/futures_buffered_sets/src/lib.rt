@@ -24,18 +24,18 @@
 pub use futures_buffered_joins::join::{JoinAll, join_all};
 pub use futures_buffered_joins::try_join::{TryJoinAll, try_join_all};
 pub use futures_buffered_joins::{join, try_join};
-pub use futures_buffered_unordered::merge_bounded::{Merge, MergeBounded};
-pub use futures_buffered_unordered::merge_unbounded::MergeUnbounded;
-pub use futures_buffered_unordered::slot_stream::{PollStream, SlotStream};
-pub use futures_buffered_unordered::{merge_bounded, merge_unbounded, slot_stream};
 pub use futures_buffered_ordered::futures_ordered::FuturesOrdered;
 pub use futures_buffered_ordered::futures_ordered_bounded::FuturesOrderedBounded;
 pub use futures_buffered_ordered::{futures_ordered, futures_ordered_bounded};
 pub use futures_buffered_unordered::fused::{FusedFuture, FusedStream, SizeHint};
 pub use futures_buffered_unordered::futures_unordered::FuturesUnordered;
 pub use futures_buffered_unordered::futures_unordered_bounded::FuturesUnorderedBounded;
+pub use futures_buffered_unordered::merge_bounded::{Merge, MergeBounded};
+pub use futures_buffered_unordered::merge_unbounded::MergeUnbounded;
 pub use futures_buffered_unordered::poll_one::{PollFuture, PollOne};
 pub use futures_buffered_unordered::slot_future::{SlotFuture, SlotHandle, SlotWaker};
+pub use futures_buffered_unordered::slot_stream::{PollStream, SlotStream};
 pub use futures_buffered_unordered::{
-    fused, futures_unordered, futures_unordered_bounded, poll_one, slot_future,
+    fused, futures_unordered, futures_unordered_bounded, merge_bounded, merge_unbounded, poll_one,
+    slot_future, slot_stream,
 };

@@ -3,8 +3,7 @@ ghost use Rattle.std.specs.Prelude.{◌≡◌};
 
 use futures::task::Poll;
 use futures_buffered_core::ready_source::SlotHandle;
-use futures_buffered_unordered::SlotStream;
-use futures_buffered_unordered::SlotFuture;
+use futures_buffered_unordered::{SlotFuture, SlotStream};
 
 /// Ready at its first poll, with what the closure returns. As a stream, it gives that once.
 #[derive(Drop)]
