@@ -118,11 +118,14 @@ fn ten_turns<R: Abort>(rt: &R, played: &mut Played<Channel<u64>>) {
     }
 }
 
+fn new_played(alloc: Global, capacity: usize) -> Result<Played<Channel<u64>>, Fail> {
+    Ok(Played::new(alloc, 1, new_ends(alloc, capacity)?)?)
+}
+
 // Five turns of a ring of seven places, with three values in it at each seam.
 #[test]
 fn values_come_in_order_over_many_turns(rt: HostRuntime) -> Result<(), Fail> {
-    let ends = new_ends(rt.alloc(), 7)?;
-    run_on(Played::new(rt.alloc(), 1, ends), |played| {
+    run_on(new_played(rt.alloc(), 7), |played| {
         play(&rt, played, &[(Sends(0, 3), Is(true))]);
         ten_turns(&rt, played);
         play(&rt, played, &[(Polls(40, 3), Is(true)), (Poll(0), Pending)]);

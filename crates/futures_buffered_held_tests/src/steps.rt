@@ -1,6 +1,7 @@
 //! Tables of steps: what a test does with the two ends of a one-shot or a channel, and what each step returns.
 use crate::rounds::name_of;
 use crate::same::assert_same;
+use futures_buffered_core::ready_core::NewFault;
 use futures_buffered_core::ready_shared::{SharedReady, SharedWaker};
 use std::alloc::{AllocGlobal, Global};
 use std::process::Abort;
@@ -54,15 +55,21 @@ pub struct Played<E> {
     other: SharedReady,
 }
 
+fn two_sources(alloc: Global, slots: usize) -> Result<(SharedReady, SharedReady), NewFault> {
+    let source = SharedReady::new(alloc, slots)?;
+    Ok((source, SharedReady::new(alloc, slots)?))
+}
+
 impl<E: Ends> Played<E> {
-    pub fn new(alloc: Global, slots: usize, ends: E) -> Result<Played<E>, Fail> {
-        let source = SharedReady::new(alloc, slots)?;
-        let other = SharedReady::new(alloc, slots)?;
-        Ok(Played {
-            ends,
-            source,
-            other,
-        })
+    pub fn new(alloc: Global, slots: usize, ends: E) -> Result<Played<E>, NewFault> {
+        match two_sources(alloc, slots) {
+            Ok((source, other)) => Ok(Played {
+                ends,
+                source,
+                other,
+            }),
+            Err(fault) => Err(fault),
+        }
     }
 
     fn poll(&mut self, slot: usize) -> Reply {
