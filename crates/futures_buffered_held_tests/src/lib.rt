@@ -6,6 +6,7 @@
 //! - `oneshot_threads`, `oneshot_rounds`: one-shots that are sent from threads, and a send and a poll that meet in one
 //!   round after another.
 //! - `spsc`, `spsc_threads`: channels from one sender, also where that is on a thread.
+//! - `steps`: tables of what a test does with two ends, and what that returns.
 //! - `rounds`, `same`: rounds in which a thread acts, what a source names, and assertions as calls.
 #![tactic(auto)]
 
@@ -23,5 +24,7 @@ mod same;
 mod spsc;
 #[cfg(test)]
 mod spsc_threads;
+#[cfg(test)]
+mod steps;
 #[cfg(test)]
 mod values;

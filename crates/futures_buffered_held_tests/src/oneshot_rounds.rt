@@ -6,7 +6,7 @@ use crate::same::assert_same;
 use futures::task::Poll;
 use futures_buffered_core::ready_shared::SharedReady;
 use futures_buffered_held::oneshot::{Receiver, Sender, channel};
-use futures_buffered_sets::slot_future::SlotFuture;
+use futures_buffered_unordered::SlotFuture;
 use std::alloc::{AllocError, Global};
 use std::sync::Arc;
 use std::sync::atomic::Ordering::SeqCst;
@@ -23,10 +23,12 @@ fn send_once(rounds: &Rounds, round: u64, sender: Sender<u64>) {
     rounds.over.store(round, SeqCst);
 }
 
-// Sends once in each round.
-fn send_often(rounds: &Rounds, senders: Vec<Sender<u64>>) {
-    for (before, sender) in senders.into_iter().enumerate() {
-        send_once(rounds, (before as u64).saturating_add(1), sender);
+// Sends once in each round, each time by the last of the senders.
+fn send_often(rounds: &Rounds, senders: &mut Vec<Sender<u64>>) {
+    for round in 1..=ROUNDS {
+        if let Some(sender) = senders.pop() {
+            send_once(rounds, round, sender);
+        }
     }
 }
 
@@ -56,12 +58,24 @@ fn meet(
     came || (is_marked && polled(source, receiver, round))
 }
 
+// The same with the last of the receivers.
+fn next_meets(
+    source: &mut SharedReady,
+    rounds: &Rounds,
+    receivers: &mut Vec<Receiver<u64>>,
+    round: u64,
+) -> bool {
+    match receivers.pop() {
+        Some(mut receiver) => meet(source, rounds, &mut receiver, round),
+        None => false,
+    }
+}
+
 // In how many rounds the wake or the value was lost.
-fn lost(source: &mut SharedReady, rounds: &Rounds, receivers: Vec<Receiver<u64>>) -> u64 {
+fn lost(source: &mut SharedReady, rounds: &Rounds, receivers: &mut Vec<Receiver<u64>>) -> u64 {
     let mut lost = 0u64;
-    for (before, mut receiver) in receivers.into_iter().enumerate() {
-        let round = (before as u64).saturating_add(1);
-        if !meet(source, rounds, &mut receiver, round) {
+    for round in 1..=ROUNDS {
+        if !next_meets(source, rounds, receivers, round) {
             lost = lost.saturating_add(1);
         }
     }
@@ -88,8 +102,8 @@ fn no_wake_of_fifty_thousand_is_lost(rt: HostRuntime) -> Result<(), Fail> {
     fill(rt.alloc(), &mut receivers, &mut senders)?;
     let rounds = new_rounds(rt.alloc())?;
     let shared = Arc::try_clone(&rounds)?;
-    let thread = thread::spawn(&rt, move || send_often(&shared, senders))?;
-    let lost = lost(&mut source, &rounds, receivers);
+    let thread = thread::spawn(&rt, move || send_often(&shared, &mut senders))?;
+    let lost = lost(&mut source, &rounds, &mut receivers);
     thread.join(&rt);
     assert_same(&rt, lost, 0);
     Ok(())

@@ -1,10 +1,9 @@
 //! One-shots that are sent from four threads.
 use crate::same::assert_same;
+use futures::StreamExt;
 use futures::executor::block_on;
-use futures::{StreamExt, stream};
-use futures_buffered::buffered_ordered::BufferedOrdered;
-use futures_buffered_core::ready_shared::SharedReady;
 use futures_buffered_held::oneshot::{Canceled, Receiver, Sender, channel};
+use futures_buffered_unordered::FuturesUnorderedBounded;
 use std::alloc::{AllocError, AllocGlobal, Global};
 use std::test::Fail;
 use std::thread::{self, JoinHandle, Threads};
@@ -87,9 +86,8 @@ fn sum_of(all: &Vec<Answer>) -> u64 {
 fn two_thousand_while_they_are_polled(rt: HostRuntime) -> Result<(), Fail> {
     let (mut receivers, mut threads) = (Vec::new(rt.alloc()), Vec::new(rt.alloc()));
     start(&rt, &mut receivers, &mut threads)?;
-    let held = stream::iter(receivers);
-    let outputs = BufferedOrdered::<_, SharedReady>::over(&(), rt.alloc(), held, 8)?;
-    let all = block_on(&rt, outputs.collect(rt.alloc()))??;
+    let set = FuturesUnorderedBounded::from_iter(rt.alloc(), receivers)?;
+    let all = block_on(&rt, set.collect(rt.alloc()))??;
     end(&rt, threads);
     assert_same(&rt, (all.len(), sum_of(&all)), (2_000, 99_000));
     Ok(())

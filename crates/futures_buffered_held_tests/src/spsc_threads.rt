@@ -10,7 +10,7 @@ use futures::task::Poll;
 use futures_buffered_core::ready_core::NewFault;
 use futures_buffered_core::ready_shared::SharedReady;
 use futures_buffered_held::spsc::{Receiver, Sender, TryRecvError, channel};
-use futures_buffered_sets::slot_stream::SlotStream;
+use futures_buffered_merges::SlotStream;
 use std::alloc::Global;
 use std::sync::Arc;
 use std::sync::atomic::Ordering::SeqCst;
@@ -29,28 +29,32 @@ fn goes(round: u64) -> bool {
     round % 3 != 1
 }
 
-// Acts in its round. A sender that does not go in it is kept.
-fn act(rounds: &Rounds, round: u64, mut sender: Sender<u64>, stay: &mut Vec<Sender<u64>>) {
+// Goes in its round, or is kept.
+fn go(round: u64, sender: Sender<u64>, stay: &mut Vec<Sender<u64>>) {
+    if !goes(round) {
+        let _ = keep(stay, sender);
+    } else if round % 2 == 1 {
+        let _ = sender.finish();
+    }
+}
+
+fn act(rounds: &Rounds, round: u64, sender: Sender<u64>, stay: &mut Vec<Sender<u64>>) {
+    let mut sender = sender;
     wait_for(&rounds.begun, round);
     pause(rounds, round % 29);
     if sends(round) {
         let _ = sender.try_send(round);
     }
-    if !goes(round) {
-        let _ = keep(stay, sender);
-    } else if round % 2 == 0 {
-        drop(sender);
-    } else {
-        let _ = sender.finish();
-    }
+    go(round, sender, stay);
     rounds.over.store(round, SeqCst);
 }
 
-// Acts once in each round. Those that did not go in their rounds go at the end.
-fn act_often(rounds: &Rounds, senders: Vec<Sender<u64>>, stay: Vec<Sender<u64>>) {
-    let mut stay = stay;
-    for (before, sender) in senders.into_iter().enumerate() {
-        act(rounds, (before as u64).saturating_add(1), sender, &mut stay);
+// Acts once in each round, each time by the last of the senders. Those that did not go in their rounds stay.
+fn act_often(rounds: &Rounds, senders: &mut Vec<Sender<u64>>, stay: &mut Vec<Sender<u64>>) {
+    for round in 1..=ROUNDS {
+        if let Some(sender) = senders.pop() {
+            act(rounds, round, sender, stay);
+        }
     }
 }
 
@@ -98,12 +102,24 @@ fn meet(
     came == wanted || (came.is_pending() && is_marked && polled(source, 0, receiver) == wanted)
 }
 
+// The same with the last of the receivers.
+fn next_meets(
+    source: &mut SharedReady,
+    rounds: &Rounds,
+    receivers: &mut Vec<Receiver<u64>>,
+    round: u64,
+) -> bool {
+    match receivers.pop() {
+        Some(mut receiver) => meet(source, rounds, &mut receiver, round),
+        None => false,
+    }
+}
+
 // In how many rounds a wake or an answer was lost.
-fn lost(source: &mut SharedReady, rounds: &Rounds, receivers: Vec<Receiver<u64>>) -> u64 {
+fn lost(source: &mut SharedReady, rounds: &Rounds, receivers: &mut Vec<Receiver<u64>>) -> u64 {
     let mut lost = 0u64;
-    for (before, mut receiver) in receivers.into_iter().enumerate() {
-        let round = (before as u64).saturating_add(1);
-        if !meet(source, rounds, &mut receiver, round) {
+    for round in 1..=ROUNDS {
+        if !next_meets(source, rounds, receivers, round) {
             lost = lost.saturating_add(1);
         }
     }
@@ -128,19 +144,18 @@ fn nothing_of_forty_five_thousand_rounds_is_lost(rt: HostRuntime) -> Result<(), 
     let mut source: SharedReady = SharedReady::new(rt.alloc(), 1)?;
     let (mut receivers, mut senders) = (Vec::new(rt.alloc()), Vec::new(rt.alloc()));
     fill(rt.alloc(), &mut receivers, &mut senders)?;
-    let stay = Vec::with_capacity(rt.alloc(), ROUNDS as usize)?;
+    let mut stay = Vec::with_capacity(rt.alloc(), ROUNDS as usize)?;
     let rounds = new_rounds(rt.alloc())?;
     let shared = Arc::try_clone(&rounds)?;
-    let thread = thread::spawn(&rt, move || act_often(&shared, senders, stay))?;
-    let lost = lost(&mut source, &rounds, receivers);
+    let thread = thread::spawn(&rt, move || act_often(&shared, &mut senders, &mut stay))?;
+    let lost = lost(&mut source, &rounds, &mut receivers);
     thread.join(&rt);
     assert_same(&rt, lost, 0);
     Ok(())
 }
 
 // Sends the number of each round.
-fn send_often(rounds: &Rounds, sender: Sender<u64>) {
-    let mut sender = sender;
+fn send_often(rounds: &Rounds, sender: &mut Sender<u64>) {
     for round in 1..=ROUNDS {
         wait_for(&rounds.begun, round);
         pause(rounds, round % 29);
@@ -172,10 +187,10 @@ fn moves(
 }
 
 // After how many moves the slot moved to was not woken.
-fn lost_by_moves(source: &mut SharedReady, rounds: &Rounds, receiver: Receiver<u64>) -> u64 {
-    let (mut receiver, mut lost) = (receiver, 0u64);
+fn lost_by_moves(source: &mut SharedReady, rounds: &Rounds, receiver: &mut Receiver<u64>) -> u64 {
+    let mut lost = 0u64;
     for before in 0..ROUNDS / 2 {
-        if !moves(source, rounds, &mut receiver, before * 2 + 1) {
+        if !moves(source, rounds, receiver, before * 2 + 1) {
             lost = lost.saturating_add(1);
         }
     }
@@ -185,11 +200,11 @@ fn lost_by_moves(source: &mut SharedReady, rounds: &Rounds, receiver: Receiver<u
 #[test]
 fn no_wake_of_a_slot_moved_to_is_lost(rt: HostRuntime) -> Result<(), Fail> {
     let mut source: SharedReady = SharedReady::new(rt.alloc(), 2)?;
-    let (sender, receiver) = channel(rt.alloc(), 2)?;
+    let (mut sender, mut receiver) = channel(rt.alloc(), 2)?;
     let rounds = new_rounds(rt.alloc())?;
     let shared = Arc::try_clone(&rounds)?;
-    let thread = thread::spawn(&rt, move || send_often(&shared, sender))?;
-    let lost = lost_by_moves(&mut source, &rounds, receiver);
+    let thread = thread::spawn(&rt, move || send_often(&shared, &mut sender))?;
+    let lost = lost_by_moves(&mut source, &rounds, &mut receiver);
     thread.join(&rt);
     assert_same(&rt, lost, 0);
     Ok(())

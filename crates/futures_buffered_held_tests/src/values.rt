@@ -1,29 +1,21 @@
-//! Values, closures, one of two, and the items of an iterator.
+//! Values, closures, one of two, and the items of an iterator. `one_of_two_is_polled` has a value in a set too.
 use crate::same::assert_same;
-use futures::StreamExt;
 use futures::executor::block_on;
 use futures::task::Poll;
 use futures::test::MockTask;
+use futures::{Stream, StreamExt};
 use futures_buffered_core::ready_shared::{SharedReady, SharedWaker};
 use futures_buffered_core::ready_source::SlotWaker;
+use futures_buffered_held::Either;
 use futures_buffered_held::future::{map, poll_fn, ready};
+use futures_buffered_held::oneshot::{Sender, channel};
 use futures_buffered_held::stream::iter;
-use futures_buffered_held::{Either, oneshot};
-use futures_buffered_sets::{FuturesUnorderedBounded, MergeBounded, SlotFuture};
+use futures_buffered_merges::MergeBounded;
+use futures_buffered_unordered::{FuturesUnorderedBounded, SlotFuture};
+use std::alloc::AllocGlobal;
+use std::random::RandomSource;
 use std::test::Fail;
 use test_support::polling::poll_next;
-
-#[test]
-fn a_value_is_given_at_once(rt: HostRuntime) -> Result<(), Fail> {
-    let task = MockTask::new(&rt)?;
-    let mut set = FuturesUnorderedBounded::<_, SharedReady>::new(rt.alloc(), 2)?;
-    let _ = set.try_push(ready(5));
-    let _ = set.try_push(ready(6));
-    assert_same(&rt, poll_next(&task, &mut set), Poll::Ready(Some(5)));
-    assert_same(&rt, poll_next(&task, &mut set), Poll::Ready(Some(6)));
-    assert_same(&rt, poll_next(&task, &mut set), Poll::Ready(None));
-    Ok(())
-}
 
 #[test]
 fn a_value_is_given_once(rt: HostRuntime) -> Result<(), Fail> {
@@ -33,6 +25,24 @@ fn a_value_is_given_once(rt: HostRuntime) -> Result<(), Fail> {
     assert_same(&rt, value.poll(&waker), Poll::Ready(5));
     assert_same(&rt, value.poll(&waker), Poll::Pending);
     Ok(())
+}
+
+// What a poll before the sender has sent 21 returns, and one after that.
+fn polls_around<R, St>(
+    rt: &R,
+    set: St,
+    sender: Sender<u64>,
+) -> Result<(Poll<Option<St::Item>>, Poll<Option<St::Item>>), Fail>
+where
+    R: RandomSource + AllocGlobal,
+    St: Stream<Item: Drop> + Drop,
+    requires { (stream : St) → St.can_poll stream }
+{
+    let mut set = set;
+    let task = MockTask::new(rt)?;
+    let before = poll_next(&task, &mut set);
+    let _ = sender.send(21);
+    Ok((before, poll_next(&task, &mut set)))
 }
 
 // Ready at its third poll. At each before it has itself polled again.
@@ -47,40 +57,41 @@ fn third(polls: &mut u64, waker: &SharedWaker) -> Poll<u64> {
 
 #[test]
 fn a_closure_is_asked_at_each_poll(rt: HostRuntime) -> Result<(), Fail> {
-    let task = MockTask::new(&rt)?;
     let mut polls = 0;
-    let mut set = FuturesUnorderedBounded::<_, SharedReady>::new(rt.alloc(), 1)?;
-    let _ = set.try_push(poll_fn(move |waker: &SharedWaker| third(&mut polls, waker)));
-    assert_same(&rt, poll_next(&task, &mut set), Poll::Ready(Some(3)));
+    let futures = vec![in rt.alloc();
+        poll_fn(move |waker: &SharedWaker| third(&mut polls, waker)),
+    ]?;
+    let set = FuturesUnorderedBounded::from_iter(rt.alloc(), futures)?;
+    let (sender, _receiver) = channel(rt.alloc())?;
+    let polled = polls_around(&rt, set, sender)?;
+    assert_same(&rt, polled, (Poll::Ready(Some(3)), Poll::Ready(None)));
     Ok(())
 }
 
 #[test]
 fn an_output_goes_through_a_closure(rt: HostRuntime) -> Result<(), Fail> {
-    let task = MockTask::new(&rt)?;
-    let (sender, receiver) = oneshot::channel::<u64>(rt.alloc())?;
+    let (sender, receiver) = channel(rt.alloc())?;
     let doubled = map(
         receiver,
         |sent: Result<u64, _>| sent.unwrap_or(0).wrapping_mul(2),
     );
-    let mut set = FuturesUnorderedBounded::<_, SharedReady>::new(rt.alloc(), 1)?;
-    let _ = set.try_push(doubled);
-    assert_same(&rt, poll_next(&task, &mut set), Poll::Pending);
-    let _ = sender.send(21);
-    assert_same(&rt, poll_next(&task, &mut set), Poll::Ready(Some(42)));
+    let set = FuturesUnorderedBounded::from_iter(rt.alloc(), vec![in rt.alloc(); doubled]?)?;
+    let polled = polls_around(&rt, set, sender)?;
+    assert_same(&rt, polled, (Poll::Pending, Poll::Ready(Some(42))));
     Ok(())
 }
 
 #[test]
 fn one_of_two_is_polled(rt: HostRuntime) -> Result<(), Fail> {
-    let task = MockTask::new(&rt)?;
-    let (sender, receiver) = oneshot::channel::<u64>(rt.alloc())?;
-    let mut set = FuturesUnorderedBounded::<_, SharedReady>::new(rt.alloc(), 2)?;
-    let _ = set.try_push(Either::Left(receiver));
-    let _ = set.try_push(Either::Right(ready(Ok(6))));
-    assert_same(&rt, poll_next(&task, &mut set), Poll::Ready(Some(Ok(6))));
-    let _ = sender.send(5);
-    assert_same(&rt, poll_next(&task, &mut set), Poll::Ready(Some(Ok(5))));
+    let (sender, receiver) = channel(rt.alloc())?;
+    let futures = vec![in rt.alloc(); Either::Left(receiver), Either::Right(ready(Ok(6)))]?;
+    let set = FuturesUnorderedBounded::from_iter(rt.alloc(), futures)?;
+    let polled = polls_around(&rt, set, sender)?;
+    assert_same(
+        &rt,
+        polled,
+        (Poll::Ready(Some(Ok(6))), Poll::Ready(Some(Ok(21)))),
+    );
     Ok(())
 }
 
@@ -90,7 +101,7 @@ fn items_of_iterators_take_turns(rt: HostRuntime) -> Result<(), Fail> {
         Either::Left(iter(1..3u64)),
         Either::Right(iter(Some(10u64))),
     ]?;
-    let merge = MergeBounded::<_, SharedReady>::over(&(), rt.alloc(), streams)?;
+    let merge = MergeBounded::from_iter(rt.alloc(), streams)?;
     let items = block_on(&rt, merge.collect(rt.alloc()))??;
     assert_same(&rt, items.as_slice() == [1, 10, 2].as_slice(), true);
     Ok(())
