@@ -6,8 +6,6 @@ mod failing;
 #[cfg(test)]
 mod fakes;
 #[cfg(test)]
-mod fault_texts;
-#[cfg(test)]
 mod flushes;
 #[cfg(test)]
 mod long_scripts;

@@ -14,9 +14,6 @@ use std::thread::yield_now;
 
 const TURNS: u64 = 1000000000;
 
-// How long a thread that is late stays behind its last wake.
-const LATE_TURNS: u64 = 100000;
-
 // How often each of two threads passed the gate before and behind each of its two wakes, how many
 // threads have come to it, and how many went on alone.
 #[derive(Drop)]
@@ -104,57 +101,6 @@ fn two_wakers_at_once(rt: HostRuntime) -> Result<(), Fail> {
         output.as_slice(),
         b"threads 2 wakes 4 outputs 0 1\n".as_slice(),
     );
-    Ok(())
-}
-
-// Holds each thread behind its last wake until those before it have passed, and for some turns more,
-// and counts those that have passed.
-#[derive(Drop)]
-struct LateEnd {
-    passed: Arc<AtomicU64>,
-}
-
-impl LateEnd {
-    // Waits until so many have passed.
-    fn wait_for(&self, others: u64) {
-        for _ in 0..TURNS {
-            if self.passed.load(SeqCst) >= others {
-                return;
-            }
-            yield_now();
-        }
-    }
-}
-
-impl Gate for LateEnd {
-    fn before(&self, _thread: usize, _wake: usize) {}
-
-    fn after(&self, thread: usize, wake: usize) {
-        if wake != 2 {
-            return;
-        }
-        self.wait_for(thread as u64);
-        for _ in 0..LATE_TURNS {
-            yield_now();
-        }
-        self.passed.fetch_add(1, SeqCst);
-    }
-}
-
-// The last that was started ends last.
-#[test]
-fn joins_each_thread(rt: HostRuntime) -> Result<(), Fail> {
-    let passed = Arc::new(rt.alloc(), AtomicU64::new(0))?;
-    let gate = LateEnd {
-        passed: Arc::try_clone(&passed)?,
-    };
-    let mut output = Vec::new(rt.alloc());
-    assert_same(
-        &rt,
-        threads_run(rt, rt.alloc(), 2, 3, gate, &mut output),
-        Ok(()),
-    );
-    assert_same(&rt, passed.load(SeqCst), 2);
     Ok(())
 }
 

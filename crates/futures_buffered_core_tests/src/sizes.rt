@@ -1,4 +1,4 @@
-// Sources, lists, machines and slot maps of no slot, of few, of a thousand and of many.
+// Sources, lists and slot maps of no slot, of few, of a thousand and of many.
 use crate::names::{
     Marked, Names, Woken, is_as_plain, mark_all, names_each_once, slot_at, take_all,
 };
@@ -9,7 +9,6 @@ use futures_buffered_core::ready_core::{NewFault, Taken, Woke};
 use futures_buffered_core::ready_shared::SharedReady;
 use futures_buffered_core::ready_source::{CoreSource, NewSource};
 use futures_buffered_core::slot_map::PinSlotMap;
-use futures_buffered_table::ready_table::{Step, StepMachine};
 use std::alloc::Global;
 use std::process::Abort;
 use std::test::Fail;
@@ -121,30 +120,6 @@ fn try_list(rt: &impl Abort, alloc: Global, slots: usize) -> Result<bool, Fail> 
 fn a_list_names_each_slot_once(rt: HostRuntime) -> Result<(), Fail> {
     for slots in SIZES {
         assert!(rt; try_list(&rt, rt.alloc(), slots)?);
-    }
-    Ok(())
-}
-
-// A machine begins a wake of its last slot, where it has one, and of none that is not there.
-fn try_machine(rt: &impl Abort, alloc: Global, slots: usize) -> Result<(), Fail> {
-    let mut machine = StepMachine::new(alloc, slots)?;
-    let past = machine.step(Step::Mark {
-        seat: 0,
-        slot: slots,
-    });
-    assert_same(rt, past, None);
-    let last = machine.step(Step::Mark {
-        seat: 0,
-        slot: slots.saturating_sub(1),
-    });
-    assert_same(rt, last.is_some(), slots > 0);
-    Ok(())
-}
-
-#[test]
-fn a_machine_begins_a_wake_of_its_last_slot(rt: HostRuntime) -> Result<(), Fail> {
-    for slots in SIZES {
-        try_machine(&rt, rt.alloc(), slots)?;
     }
     Ok(())
 }

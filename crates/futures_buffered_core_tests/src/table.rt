@@ -3,7 +3,7 @@
 // - `list`, `threads`: the calls of a short list on one thread, and of one on four threads. `alone` holds a list with
 //   its seats.
 // - `wake_anew`, `before_empty`: wakes by new seats, and what a taking calls.
-// - `schedules`: long schedules of the machine, and what is refused. Short ones are scripts of `fbuf`.
+// - `schedules`: long schedules of the machine. Short ones are scripts of `fbuf`.
 pub mod alone;
 mod before_empty;
 mod list;

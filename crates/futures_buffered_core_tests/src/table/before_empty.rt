@@ -1,5 +1,5 @@
 //! What a taking calls before it can answer Empty.
-ghost use Rattle.std.specs.Prelude.{◌≡◌, ◌<◌, true};
+ghost use Rattle.std.specs.Prelude.{◌≡◌, true};
 ghost use Rattle.futures_buffered_table.specs.declared.answer.Taken.TheVariants.{Empty};
 
 use crate::same::assert_same;
@@ -7,11 +7,7 @@ use crate::table::alone::{Alone, list_of};
 use futures_buffered_table::answer::{Taken, Woke};
 use futures_buffered_table::ready_table::{BeforeEmpty, PollSeat, ReadyList, StepsMade};
 use std::process::Abort;
-use std::sync::atomic::AtomicU64;
-use std::sync::atomic::Ordering::SeqCst;
 use std::test::Fail;
-use std::thread;
-use std::thread::Threads;
 
 // Counts its calls.
 #[derive(Drop)]
@@ -123,70 +119,5 @@ fn empty_is_told_of(rt: HostRuntime) -> Result<(), Fail> {
     let (taken, told) = told_of_empty(&list, &mut poll);
     assert_same(&rt, taken, Taken::Empty);
     assert!(rt; told);
-    Ok(())
-}
-
-// Raises a flag.
-#[derive(Drop)]
-struct Raises<'a> {
-    flag: &'a AtomicU64,
-}
-
-impl<'a> BeforeEmpty for Raises<'a> {
-    fn before_empty(&mut self, _made: &StepsMade<'_>) {
-        self.flag.store(1, SeqCst);
-    }
-}
-
-// Wakes slot 0: whether the flag is raised then.
-fn wake_and_look(list: &ReadyList, flag: &AtomicU64) -> bool
-    requires { 0 < list.now.capacity }
-{
-    let (_, _seat) = list.wake_anew(0);
-    flag.load(SeqCst) == 1
-}
-
-// Takes, and raises the flag where the answer may be Empty.
-fn take_and_raise(list: &ReadyList, flag: &AtomicU64, poll: PollSeat) -> (Taken, PollSeat)
-    requires { poll.list ≡ list.now.list }
-    ensures { result.1.list ≡ poll.list }
-{
-    let mut poll = poll;
-    let taken = list.take_with(&mut poll, &mut Raises { flag });
-    (taken, poll)
-}
-
-// A wake and a taking at once: whether the waker found the flag, the answer, and the poll seat.
-fn round(
-    rt: &impl Threads,
-    list: &ReadyList,
-    flag: &AtomicU64,
-    poll: PollSeat,
-) -> (bool, Taken, PollSeat)
-    requires { (poll.list ≡ list.now.list) × (0 < list.now.capacity) }
-    ensures { result.2.list ≡ list.now.list }
-{
-    flag.store(0, SeqCst);
-    let (found, (taken, poll)) = thread::join(
-        rt,
-        || wake_and_look(list, flag),
-        || take_and_raise(list, flag, poll),
-    );
-    (found, taken, poll)
-}
-
-// Where the answer is Empty, the wake came after the tail read, and finds what the call left.
-#[test]
-fn a_wake_after_empty_finds_the_flag(rt: HostRuntime) -> Result<(), Fail> {
-    let (list, mut poll, _) = list_of(&rt, rt.alloc(), 1);
-    let flag = AtomicU64::new(0);
-    for _ in 0..2000u64 {
-        let (found, taken, seat) = round(&rt, &list, &flag, poll);
-        poll = seat;
-        assert!(rt; found || taken != Taken::Empty);
-        if taken != Taken::Slot(0) {
-            assert_same(&rt, list.take(&mut poll), Taken::Slot(0));
-        }
-    }
     Ok(())
 }

@@ -1,36 +1,9 @@
-//! The calls of a short list, on one thread.
+//! What a list begins and ends with, on one thread.
 use crate::same::assert_same;
 use crate::table::alone::list_of;
 use futures_buffered_table::answer::{MAX_CAPACITY, NewFault, Taken, Woke};
 use futures_buffered_table::ready_table::ReadyList;
 use std::test::Fail;
-
-// A list for no slot is empty, and closes.
-#[test]
-fn no_slots(rt: HostRuntime) -> Result<(), Fail> {
-    let (list, mut poll, seat) = list_of(&rt, rt.alloc(), 0);
-    assert_same(&rt, list.take(&mut poll), Taken::Empty);
-    assert_same(&rt, list.take(&mut poll), Taken::Empty);
-    let (one, two) = seat.split(&list);
-    let seats = vec![in rt.alloc(); one, two]?;
-    list.close(poll, seats).free();
-    Ok(())
-}
-
-// A slot that is woken again keeps its place.
-#[test]
-fn names_each_woken_slot_once(rt: HostRuntime) -> Result<(), Fail> {
-    let (list, mut poll, mut seat) = list_of(&rt, rt.alloc(), 2);
-    assert_same(&rt, list.wake(&mut seat, 0), Woke::Fresh);
-    assert_same(&rt, list.wake(&mut seat, 1), Woke::Fresh);
-    assert_same(&rt, list.wake(&mut seat, 0), Woke::Already);
-    assert_same(&rt, list.take(&mut poll), Taken::Slot(0));
-    assert_same(&rt, list.take(&mut poll), Taken::Slot(1));
-    assert_same(&rt, list.take(&mut poll), Taken::Empty);
-    let seats = vec![in rt.alloc(); seat]?;
-    list.close(poll, seats).free();
-    Ok(())
-}
 
 // A seat that is split marks no slot.
 #[test]

@@ -1,12 +1,7 @@
-// Long schedules on a machine, made by one call too, and which are refused. What each step answers is compared with a
-// slow model by
-// `scripts/compare_with_model`, over scripts of `fbuf`.
+// Long schedules on a machine, made by one call too. What each step answers is compared with a slow model by
+// `scripts/compare_with_model`, over scripts of `fbuf`; what is refused is in lines of `calls`.
 use crate::names::next_number;
-use crate::same::assert_same;
-use futures_buffered_table::answer::MAX_CAPACITY;
-use futures_buffered_table::ready_table::{
-    Step, StepFault, StepMachine, StepReply, WAKE_SEATS, steps,
-};
+use futures_buffered_table::ready_table::{Step, StepFault, StepMachine, StepReply, steps};
 use std::alloc::{AllocError, Global};
 use std::process::Abort;
 use std::test::Fail;
@@ -102,27 +97,5 @@ fn many_long_schedules(rt: HostRuntime) -> Result<(), Fail> {
         let count = (number >> 33) % 400 + 1;
         number = long_schedule(&rt, rt.alloc(), count, number)?;
     }
-    Ok(())
-}
-
-// About five steps of eight are made.
-#[test]
-fn a_schedule_of_two_thousand_steps(rt: HostRuntime) -> Result<(), Fail> {
-    let mut schedule = Schedule::new(&rt, rt.alloc());
-    schedule.steps_by(4_000, 1)?;
-    assert_same(&rt, schedule.made.len() > 2_000, true);
-    schedule.repeats(&rt, rt.alloc())?;
-    Ok(())
-}
-
-// The faults, in the order in which they are tested.
-#[test]
-fn faults_of_steps(rt: HostRuntime) -> Result<(), Fail> {
-    assert!(rt; steps(rt.alloc(), usize::MAX, &[go(0)]) == Err(StepFault::TooLarge));
-    assert!(rt; steps(rt.alloc(), MAX_CAPACITY + 1, &[]) == Err(StepFault::TooLarge));
-    assert!(rt; steps(rt.alloc(), MAX_CAPACITY, &[go(0)]) == Err(StepFault::Memory));
-    assert!(rt;
-        steps(rt.alloc(), 1, &[mark(WAKE_SEATS - 1, 0), go(62), go(61)]) == Err(StepFault::Step(1))
-    );
     Ok(())
 }
