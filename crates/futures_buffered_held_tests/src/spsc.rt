@@ -13,7 +13,7 @@ use futures_buffered_core::ready_core::{MAX_CAPACITY, NewFault};
 use futures_buffered_core::ready_shared::{SharedReady, SharedWaker};
 use futures_buffered_core::ready_source::ReadySource;
 use futures_buffered_held::spsc::{Receiver, Sender, TryRecvError, TrySendError, channel};
-use futures_buffered_merges::{MergeBounded, SlotStream};
+use futures_buffered_unordered::{MergeBounded, SlotStream};
 use std::alloc::{AllocError, AllocGlobal, Global};
 use std::process::Abort;
 use std::random::RandomSource;

@@ -10,7 +10,7 @@ use futures::task::Poll;
 use futures_buffered_core::ready_core::NewFault;
 use futures_buffered_core::ready_shared::SharedReady;
 use futures_buffered_held::spsc::{Receiver, Sender, TryRecvError, channel};
-use futures_buffered_merges::SlotStream;
+use futures_buffered_unordered::SlotStream;
 use std::alloc::Global;
 use std::sync::Arc;
 use std::sync::atomic::Ordering::SeqCst;

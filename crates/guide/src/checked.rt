@@ -21,15 +21,3 @@ impl<W: SlotHandle> SlotFuture<W> for Half {
         }
     }
 }
-
-/// As its `Half`, without the number.
-#[derive(Drop)]
-pub struct Check(pub Half);
-
-impl<W: SlotHandle> SlotFuture<W> for Check {
-    type Output = Result<(), Odd>;
-
-    fn poll(&mut self, waker: &W) -> Poll<Result<(), Odd>> {
-        self.0.poll(waker).map(|half| half.map(|_| ()))
-    }
-}

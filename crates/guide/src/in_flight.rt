@@ -5,35 +5,13 @@ ghost use Rattle.futures_buffered.specs.InFlightOrdered.{CanPollOrdered};
 use crate::at_once::sent;
 use crate::show::print_all;
 use anyhow::bail;
-use futures::channel::oneshot::{Canceled, channel};
+use futures::channel::oneshot::Canceled;
 use futures::{Future, FutureExt, future};
 use futures_buffered::in_flight::{FuturesOrderedBounded, FuturesUnorderedBounded};
 use std::alloc::AllocGlobal;
 use std::io::{self, Print};
 use std::random::RandomSource;
 use std::sync::Wait;
-
-pub fn told_by_keys<R>(rt: &R) -> Result<(), anyhow::Error>
-where
-    R: Wait + RandomSource + AllocGlobal + Print,
-{
-    let (sender, late) = channel::<u64>(rt.alloc())?;
-    let mut set = FuturesUnorderedBounded::new(rt.alloc(), 2)?;
-    let Ok(late) = set.try_push(late) else {
-        bail!("there is no room for it");
-    };
-    let soon = set.try_push(sent(rt.alloc(), 7)?).ok();
-    let (came, mut set) = set.wait(rt)?;
-    let is_soon = came.map(|came| came.key) == soon;
-    let _tag = set.cancel(late);
-    let held = set.len();
-    let (_end, _set) = set.wait(rt)?;
-    println!(rt;
-        "its own: {is_soon}, {held} held, nobody receives: {}",
-        sender.is_canceled()
-    )?;
-    Ok(())
-}
 
 /// The sum of what the futures give, each added as it comes.
 fn sum_of<R, F>(rt: &R, set: FuturesUnorderedBounded<F>) -> io::Result<u64>

@@ -1,9 +1,8 @@
-//! Futures and streams that come with the library.
+//! Futures that come with the library.
 use crate::show::print_all;
 use futures_buffered::future::{map, ready};
 use futures_buffered::oneshot::Canceled;
-use futures_buffered::stream::iter;
-use futures_buffered::{Either, FuturesUnorderedBounded, MergeUnbounded, oneshot};
+use futures_buffered::{Either, FuturesUnorderedBounded, oneshot};
 use std::alloc::AllocGlobal;
 use std::io::Print;
 use std::random::RandomSource;
@@ -19,13 +18,4 @@ where
     set.push(Either::Right(ready(1)));
     let _ = sender.send(7);
     print_all(rt, set)
-}
-
-pub fn two_iterators<R>(rt: &R) -> Result<(), anyhow::Error>
-where
-    R: Wait + RandomSource + AllocGlobal + Print,
-{
-    let numbers = vec![in rt.alloc(); iter(1..4u64), iter(10..12)]?;
-    let merge = MergeUnbounded::from_iter(rt.alloc(), numbers)?;
-    print_all(rt, merge)
 }

@@ -19,16 +19,3 @@ where
     println!(rt; "{items:?}")?;
     Ok(())
 }
-
-/// Runs the stream until it gives an item or ends, and prints which.
-pub fn print_next<R, St>(rt: &R, stream: &mut St) -> Result<(), anyhow::Error>
-where
-    R: Wait + RandomSource + AllocGlobal + Print,
-    St: Stream,
-    St::Item: Debug + Drop,
-    requires { St.can_poll stream.old }
-{
-    let item = block_on(rt, stream.next())?;
-    println!(rt; "{item:?}")?;
-    Ok(())
-}
