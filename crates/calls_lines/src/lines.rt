@@ -68,7 +68,7 @@ impl Session {
     fn line<O: Subject>(&mut self, object: &mut O, line: &str)
         requires { O.can_poll }
     {
-        self.report.begin_line();
+        self.report.begin_line(line);
         match parse(line) {
             Line::Call(call, wanted) if !self.report.test_is_over => {
                 self.reply.clear();
@@ -177,7 +177,7 @@ fn begin(session: &mut Session, kind: Kind, words: &str, line: &str, lines: &[&s
 fn bare_line(session: &mut Session, line: &str) {
     match parse(line) {
         Line::Test(name) => {
-            session.report.begin_line();
+            session.report.begin_line(line);
             session.begin_test(name);
         }
         _ => session.line(&mut Nothing, line),

@@ -158,7 +158,7 @@ impl Session {
 
     /// The reply to the line is this word.
     pub fn reply_word(&mut self, line: &str, word: &str) {
-        self.report.begin_line();
+        self.report.begin_line(line);
         match parse(line) {
             Line::Call(call, wanted) if !self.report.test_is_over => {
                 self.reply.clear();
