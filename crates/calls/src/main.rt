@@ -8,6 +8,7 @@
 
 use calls_lines::lines::run_lines;
 use calls_lines::session::{Session, new_session};
+use calls_world::each::spread;
 use calls_world::report::Report;
 use std::alloc::{AllocError, AllocGlobal, Global};
 use std::env::{Args, Env};
@@ -47,6 +48,7 @@ where
 {
     session.report.begin_file(file);
     let text = read(rt, file)?;
+    let text = spread(rt.alloc(), text.as_str())?;
     let lines = lines_of(rt.alloc(), text.as_str())?;
     run_lines(session, lines.as_slice());
     print_report(rt, &mut session.report)

@@ -3,9 +3,9 @@ ghost use Rattle.std.specs.Prelude.{◌<◌, ◌≤◌};
 ghost use Rattle.calls_world.specs.declared.values.TryUnitFuture.{TryUnitFuture};
 ghost use Rattle.calls_world.specs.declared.values.UnitFuture.{UnitFuture};
 
-use crate::answer::{Answer, Given, Reply, of_debug, of_end, of_hint, of_next, of_try_end};
+use crate::answer::{Answer, Given, Reply, Told, ask, of_end, of_next, of_try_end};
 use crate::lines::run_made;
-use crate::session::{Options, Session};
+use crate::session::{Options, Session, first_of};
 use crate::subject::{Call, Subject};
 use calls_world::command::Query;
 use calls_world::shared_world::SharedWorld;
@@ -18,23 +18,22 @@ use futures_buffered::buffer::Buffer;
 use futures_buffered::for_each_concurrent::ForEachConcurrent;
 use futures_buffered::future_queue::{FutureQueue, NewQueue};
 use futures_buffered::try_for_each_concurrent::TryForEachConcurrent;
-use futures_buffered::{BufferedStreamExt, BufferedTryStreamExt};
+use futures_buffered::{
+    BufferUnordered, BufferedOrdered, BufferedStreamExt, BufferedTryStreamExt, TryBufferUnordered,
+    TryBufferedOrdered,
+};
 use futures_buffered_core::ready_core::NewFault;
 use futures_buffered_core::ready_shared::SharedReady;
 use futures_buffered_core::ready_source::ReadySource;
 use futures_buffered_sets::{FusedFuture, FusedStream, SizeHint, SlotFuture};
 
+pub type Source = FutureSource<NumberFuture>;
+
+pub type TrySource = TryFutureSource<TryFuture>;
+
 // No line chose how the object is made: it is made by the method of its source.
 fn is_usual(options: &Options) -> bool {
     options.limit.is_none() && !options.takes_source
-}
-
-// How many futures the buffer holds at most.
-fn size_of(numbers: &[usize]) -> usize {
-    match numbers.first() {
-        Some(n) => *n,
-        None => 0,
-    }
 }
 
 fn new_buffer<St: Drop, Q: NewQueue<Env = (), Source = SharedReady>>(
@@ -65,92 +64,62 @@ where
 
     fn call(&mut self, call: Call<'_>, _world: &SharedWorld, text: &mut String) -> Reply {
         match call {
-            Call::Ask(Query::SizeHint) => of_hint(self.size_hint()),
-            Call::Ask(Query::Len) => Reply::Number(self.len()),
-            Call::Ask(Query::IsEmpty) => Reply::Is(self.is_empty()),
-            Call::Ask(Query::Capacity) => Reply::Number(self.capacity()),
             Call::Ask(Query::HasStream) => Reply::Is(self.stream().is_some()),
-            Call::Ask(Query::IsTerminated) => Reply::Is(self.is_terminated()),
-            Call::Ask(Query::Debug) => of_debug(write!(text, "{self:?}")),
+            Call::Ask(query) => ask!(self, query, text, SizeHint size_hint, Len len,
+                IsEmpty is_empty, Capacity capacity, IsTerminated is_terminated),
             _ => Reply::Nothing,
         }
     }
 }
 
-pub fn run_buffer(
-    session: &mut Session,
-    numbers: &[usize],
-    lines: &[&str],
-) -> Result<usize, NewFault> {
-    let n = size_of(numbers);
-    if n == 0 {
-        return Ok(0);
-    }
-    let options = session.options;
-    let source: FutureSource<NumberFuture> = FutureSource::new(&session.world, options.hint)?;
-    let made = if is_usual(&options) {
-        source.buffered_unordered(options.alloc, n)
+pub fn unordered(session: &Session, n: usize) -> Result<BufferUnordered<Source>, NewFault>
+    requires { 0 < n }
+{
+    let source: Source = FutureSource::new(&session.world, session.options.hint)?;
+    if is_usual(&session.options) {
+        source.buffered_unordered(session.options.alloc, n)
     } else {
-        new_buffer(&options, source, n)
-    };
-    run_made(session, made, lines)
+        new_buffer(&session.options, source, n)
+    }
 }
 
-pub fn run_ordered_buffer(
-    session: &mut Session,
-    numbers: &[usize],
-    lines: &[&str],
-) -> Result<usize, NewFault> {
-    let n = size_of(numbers);
-    if n == 0 {
-        return Ok(0);
-    }
-    let options = session.options;
-    let source: FutureSource<NumberFuture> = FutureSource::new(&session.world, options.hint)?;
-    let made = if is_usual(&options) {
-        source.buffered_ordered(options.alloc, n)
+pub fn ordered(session: &Session, n: usize) -> Result<BufferedOrdered<Source>, NewFault>
+    requires { 0 < n }
+{
+    let source: Source = FutureSource::new(&session.world, session.options.hint)?;
+    if is_usual(&session.options) {
+        source.buffered_ordered(session.options.alloc, n)
     } else {
-        new_buffer(&options, source, n)
-    };
-    run_made(session, made, lines)
+        new_buffer(&session.options, source, n)
+    }
 }
 
-pub fn run_try_buffer(
-    session: &mut Session,
-    numbers: &[usize],
-    lines: &[&str],
-) -> Result<usize, NewFault> {
-    let n = size_of(numbers);
-    if n == 0 {
-        return Ok(0);
-    }
-    let options = session.options;
-    let source: TryFutureSource<TryFuture> = TryFutureSource::new(&session.world, options.hint)?;
-    let made = if is_usual(&options) {
-        source.try_buffered_unordered(options.alloc, n)
+pub fn try_unordered(
+    session: &Session,
+    n: usize,
+) -> Result<TryBufferUnordered<TrySource, TryFuture>, NewFault>
+    requires { 0 < n }
+{
+    let source: TrySource = TryFutureSource::new(&session.world, session.options.hint)?;
+    if is_usual(&session.options) {
+        source.try_buffered_unordered(session.options.alloc, n)
     } else {
-        new_buffer(&options, source, n)
-    };
-    run_made(session, made, lines)
+        new_buffer(&session.options, source, n)
+    }
 }
 
-pub fn run_try_ordered_buffer(
-    session: &mut Session,
-    numbers: &[usize],
-    lines: &[&str],
-) -> Result<usize, NewFault> {
-    let n = size_of(numbers);
-    if n == 0 {
-        return Ok(0);
-    }
-    let options = session.options;
-    let source: TryFutureSource<TryFuture> = TryFutureSource::new(&session.world, options.hint)?;
-    let made = if is_usual(&options) {
-        source.try_buffered_ordered(options.alloc, n)
+pub fn try_ordered(
+    session: &Session,
+    n: usize,
+) -> Result<TryBufferedOrdered<TrySource, TryFuture>, NewFault>
+    requires { 0 < n }
+{
+    let source: TrySource = TryFutureSource::new(&session.world, session.options.hint)?;
+    if is_usual(&session.options) {
+        source.try_buffered_ordered(session.options.alloc, n)
     } else {
-        new_buffer(&options, source, n)
-    };
-    run_made(session, made, lines)
+        new_buffer(&session.options, source, n)
+    }
 }
 
 impl<St: Stream, F, Fut, S: ReadySource> Subject for ForEachConcurrent<St, F, Fut, S>
@@ -166,12 +135,9 @@ where
 
     fn call(&mut self, call: Call<'_>, _world: &SharedWorld, text: &mut String) -> Reply {
         match call {
-            Call::Ask(Query::Len) => Reply::Number(self.len()),
-            Call::Ask(Query::IsEmpty) => Reply::Is(self.is_empty()),
-            Call::Ask(Query::Capacity) => Reply::Number(self.capacity()),
             Call::Ask(Query::HasStream) => Reply::Is(self.stream().is_some()),
-            Call::Ask(Query::IsTerminated) => Reply::Is(self.is_terminated()),
-            Call::Ask(Query::Debug) => of_debug(write!(text, "{self:?}")),
+            Call::Ask(query) => ask!(self, query, text, Len len, IsEmpty is_empty,
+                Capacity capacity, IsTerminated is_terminated),
             _ => Reply::Nothing,
         }
     }
@@ -202,7 +168,7 @@ pub fn run_for_each(
     numbers: &[usize],
     lines: &[&str],
 ) -> Result<usize, NewFault> {
-    let n = size_of(numbers);
+    let n = first_of(numbers);
     if n == 0 {
         return Ok(0);
     }
@@ -231,8 +197,7 @@ impl<F: FnMut(TryUnitFuture) -> TryUnitFuture + Drop> Subject
                 Some(buffer) => Reply::Is(buffer.stream().is_some()),
                 None => Reply::Is(false),
             },
-            Call::Ask(Query::IsTerminated) => Reply::Is(self.is_terminated()),
-            Call::Ask(Query::Debug) => of_debug(write!(text, "{self:?}")),
+            Call::Ask(query) => ask!(self, query, text, IsTerminated is_terminated),
             _ => Reply::Nothing,
         }
     }
@@ -265,7 +230,7 @@ pub fn run_try_for_each(
     numbers: &[usize],
     lines: &[&str],
 ) -> Result<usize, NewFault> {
-    let n = size_of(numbers);
+    let n = first_of(numbers);
     if n == 0 {
         return Ok(0);
     }

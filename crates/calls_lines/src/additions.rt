@@ -57,11 +57,21 @@ impl Session {
         push_numbers(&mut self.ids, rest)
     }
 
-    fn ask<O: Subject>(&mut self, object: &mut O, query: Query) -> Reply {
-        self.counter.begin(most_of_query(query));
-        let reply = object.call(Call::Ask(query), &self.world, &mut self.reply.string);
+    // A call, which may ask for so many bytes at most.
+    fn call_within<O: Subject>(
+        &mut self,
+        object: &mut O,
+        call: Call<'_>,
+        most: Option<usize>,
+    ) -> Reply {
+        self.counter.begin(most);
+        let reply = object.call(call, &self.world, &mut self.reply.string);
         self.counter.end();
         reply
+    }
+
+    fn ask<O: Subject>(&mut self, object: &mut O, query: Query) -> Reply {
+        self.call_within(object, Call::Ask(query), most_of_query(query))
     }
 
     // How many entries the object says that it has.
@@ -87,13 +97,6 @@ impl Session {
         self.before.string.as_str() == self.after.string.as_str()
     }
 
-    fn push_once<O: Subject>(&mut self, object: &mut O, end: End, id: usize) -> Reply {
-        self.counter.begin(None);
-        let reply = object.call(Call::Push(end, id), &self.world, &mut self.reply.string);
-        self.counter.end();
-        reply
-    }
-
     // A call that was refused was made once more, with this reply.
     fn count_refused(&mut self, reply: Reply) {
         if !matches!(reply, Reply::Refused) {
@@ -107,14 +110,14 @@ impl Session {
             return Reply::Changed;
         }
         self.world.forget_effects();
-        let reply = self.push_once(object, end, id);
+        let reply = self.call_within(object, Call::Push(end, id), None);
         self.count_refused(reply);
         reply
     }
 
     fn push_one<O: Subject>(&mut self, object: &mut O, end: End, id: usize) -> Reply {
         self.describe_before(object);
-        match self.push_once(object, end, id) {
+        match self.call_within(object, Call::Push(end, id), None) {
             Reply::Refused => self.push_again(object, end, id),
             reply => reply,
         }
@@ -192,20 +195,12 @@ impl Session {
         append_reply(&mut self.reply, reply);
     }
 
-    // A call for one value, which may ask for no memory.
-    fn call_for<O: Subject>(&mut self, object: &mut O, call: Call<'_>) -> Reply {
-        self.counter.begin(Some(0));
-        let reply = object.call(call, &self.world, &mut self.reply.string);
-        self.counter.end();
-        reply
-    }
-
     fn cancel_each<O: Subject>(&mut self, object: &mut O) -> Reply {
         for at in 0..self.ids.len() {
             let Some(id) = self.ids.get(at).copied() else {
                 return Reply::Nothing;
             };
-            match self.call_for(object, Call::Cancel(id)) {
+            match self.call_within(object, Call::Cancel(id), Some(0)) {
                 Reply::Ok => {}
                 reply => return reply,
             }
@@ -228,7 +223,7 @@ impl Session {
     /// Whether the object holds the value that the line names.
     pub fn contains<O: Subject>(&mut self, object: &mut O, rest: &str) {
         let reply = match number(rest) {
-            Some(id) => self.call_for(object, Call::Contains(id)),
+            Some(id) => self.call_within(object, Call::Contains(id), Some(0)),
             None => Reply::Nothing,
         };
         append_reply(&mut self.reply, reply);
@@ -237,10 +232,7 @@ impl Session {
     /// Has the object drop what it holds, and writes what was dropped.
     pub fn clear<O: Subject>(&mut self, object: &mut O) {
         self.world.forget_effects();
-        self.counter.begin(Some(0));
-        let reply = object.call(Call::Clear, &self.world, &mut self.reply.string);
-        self.counter.end();
-        match reply {
+        match self.call_within(object, Call::Clear, Some(0)) {
             Reply::Ok => self.world.append_dropped(&mut self.reply),
             reply => append_reply(&mut self.reply, reply),
         }

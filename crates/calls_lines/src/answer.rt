@@ -177,10 +177,45 @@ pub fn of_debug(written: Result<(), AllocError>) -> Reply {
     }
 }
 
-pub fn of_hint(hint: (usize, Option<usize>)) -> Reply {
-    let (least, most) = hint;
-    Reply::Hint(least, most)
+/// What a query returns.
+pub trait Told {
+    /// The reply with it.
+    fn told(self) -> Reply;
 }
+
+impl Told for usize {
+    fn told(self) -> Reply {
+        Reply::Number(self)
+    }
+}
+
+impl Told for bool {
+    fn told(self) -> Reply {
+        Reply::Is(self)
+    }
+}
+
+impl Told for (usize, Option<usize>) {
+    fn told(self) -> Reply {
+        let (least, most) = self;
+        Reply::Hint(least, most)
+    }
+}
+
+/// The reply to a query: each that the object has, with its method, and what `Debug` prints.
+macro_rules! ask {
+    ($object:expr, $query:expr, $text:expr $(, $name:ident $method:ident)*) => {
+        match $query {
+            $(calls_world::command::Query::$name => $object.$method().told(),)*
+            calls_world::command::Query::Debug => {
+                $crate::answer::of_debug(write!($text, "{:?}", $object))
+            }
+            _ => $crate::answer::Reply::Nothing,
+        }
+    };
+}
+
+pub(crate) use ask;
 
 // Its word, and the number behind it.
 fn parts_of(answer: Answer) -> (&'static str, Option<u64>) {

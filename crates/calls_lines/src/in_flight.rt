@@ -1,9 +1,6 @@
-//! Sets and queues of the kit's futures.
-use crate::answer::{
-    Answer, Given, Reply, of_debug, of_full, of_growing, of_growth, of_hint, of_next,
-};
-use crate::lines::run_made;
-use crate::session::Session;
+//! Sets of the kit's futures.
+use crate::answer::{Answer, Given, Reply, Told, ask, of_full, of_growing, of_next};
+use crate::session::{Session, first_of};
 use crate::subject::{Call, Subject};
 use calls_world::command::{End, Query};
 use calls_world::shared_world::SharedWorld;
@@ -13,21 +10,25 @@ use calls_world::world::make_place;
 use futures::Stream;
 use futures::task::{Context, Poll};
 use futures_buffered::in_flight::{
-    Came, FuturesOrdered, FuturesOrderedBounded, FuturesUnordered, FuturesUnorderedBounded,
-    FuturesUnorderedBy, IterExt, Kept, Key,
+    Came, FuturesUnordered, FuturesUnorderedBounded, FuturesUnorderedBy, IterExt, Kept, Key,
 };
 use futures_buffered_core::ready_core::NewFault;
 use futures_buffered_sets::{FusedStream, SizeHint};
-use std::alloc::Global;
 
 /// A set whose tags are the numbers of its futures, and the key of the last push of each number.
 #[derive(Drop)]
-struct KitSet<K> {
-    set: Kept<FuturesUnorderedBy<KitFuture, usize, K>>,
+pub struct KitSet<S: Stream> {
+    set: Kept<S>,
     keys: Vec<Option<Key>>,
 }
 
-/// What a set of slots and a set that grows do each in its own way.
+type Tagged<K> = FuturesUnorderedBy<KitFuture, usize, K>;
+
+type BoundedSet = FuturesUnorderedBounded<KitFuture, usize>;
+
+type GrowingSet = FuturesUnordered<KitFuture, usize>;
+
+/// What a bounded set and a set that grows do each in its own way.
 trait OfKind {
     /// A push under the number of the future as its tag.
     fn push_by_number(&mut self, value: KitFuture, id: usize) -> Result<Key, (KitFuture, usize)>;
@@ -35,10 +36,10 @@ trait OfKind {
     /// The reply if a push is refused, and the tag comes back.
     fn refusal(was_full: bool) -> Reply;
 
-    fn print(&self, text: &mut String) -> Reply;
+    fn ask(&self, query: Query, text: &mut String) -> Reply;
 }
 
-impl OfKind for Kept<FuturesUnorderedBounded<KitFuture, usize>> {
+impl OfKind for Kept<BoundedSet> {
     fn push_by_number(&mut self, value: KitFuture, id: usize) -> Result<Key, (KitFuture, usize)> {
         self.try_push_tagged(value, id)
     }
@@ -51,12 +52,13 @@ impl OfKind for Kept<FuturesUnorderedBounded<KitFuture, usize>> {
         }
     }
 
-    fn print(&self, text: &mut String) -> Reply {
-        of_debug(write!(text, "{:?}", self.get()))
+    fn ask(&self, query: Query, text: &mut String) -> Reply {
+        ask!(self.get(), query, text, Len len, IsEmpty is_empty, Capacity capacity,
+            IsFull is_full, SizeHint size_hint, IsTerminated is_terminated)
     }
 }
 
-impl OfKind for Kept<FuturesUnordered<KitFuture, usize>> {
+impl OfKind for Kept<GrowingSet> {
     fn push_by_number(&mut self, value: KitFuture, id: usize) -> Result<Key, (KitFuture, usize)> {
         self.push_tagged(value, id)
     }
@@ -70,12 +72,13 @@ impl OfKind for Kept<FuturesUnordered<KitFuture, usize>> {
         }
     }
 
-    fn print(&self, text: &mut String) -> Reply {
-        of_debug(write!(text, "{:?}", self.get()))
+    fn ask(&self, query: Query, text: &mut String) -> Reply {
+        ask!(self.get(), query, text, Len len, IsEmpty is_empty, Capacity capacity,
+            IsFull is_full, SizeHint size_hint, IsTerminated is_terminated)
     }
 }
 
-impl<K> KitSet<K> {
+impl<K> KitSet<Tagged<K>> {
     fn key_of(&self, id: usize) -> Option<Key> {
         match self.keys.get(id) {
             Some(key) => *key,
@@ -117,9 +120,9 @@ impl<K> KitSet<K> {
     }
 }
 
-impl<K> KitSet<K>
+impl<K> KitSet<Tagged<K>>
 where
-    Kept<FuturesUnorderedBy<KitFuture, usize, K>>: OfKind,
+    Kept<Tagged<K>>: OfKind,
 {
     // A set of n slots refuses exactly if it is full, and then the tag is returned too.
     fn push(&mut self, value: KitFuture, id: usize) -> Reply {
@@ -134,7 +137,7 @@ where
             }
             Err((_value, tag)) => {
                 if tag == id {
-                    <Kept<FuturesUnorderedBy<KitFuture, usize, K>> as OfKind>::refusal(was_full)
+                    <Kept<Tagged<K>> as OfKind>::refusal(was_full)
                 } else {
                     Reply::Nothing
                 }
@@ -143,9 +146,9 @@ where
     }
 }
 
-impl<K> Subject for KitSet<K>
+impl<K> Subject for KitSet<Tagged<K>>
 where
-    Kept<FuturesUnorderedBy<KitFuture, usize, K>>: OfKind,
+    Kept<Tagged<K>>: OfKind,
 {
     fn poll(&mut self, cx: &mut Context<'_>, _outputs: &mut Vec<u64>) -> Answer {
         match self.set.poll_next_keyed(cx) {
@@ -167,63 +170,36 @@ where
                 self.set.clear();
                 Reply::Ok
             }
-            Call::Ask(Query::Debug) => self.set.print(text),
-            Call::Ask(query) => ask_set(self.set.get(), query),
+            Call::Ask(query) => self.set.ask(query, text),
             _ => Reply::Nothing,
         }
     }
 }
 
-fn ask_set<T: Drop, K>(set: &FuturesUnorderedBy<KitFuture, T, K>, query: Query) -> Reply {
-    match query {
-        Query::Len => Reply::Number(set.len()),
-        Query::IsEmpty => Reply::Is(set.is_empty()),
-        Query::Capacity => Reply::Number(set.capacity()),
-        Query::IsFull => Reply::Is(set.is_full()),
-        Query::SizeHint => of_hint(set.size_hint()),
-        Query::IsTerminated => Reply::Is(set.is_terminated()),
-        _ => Reply::Nothing,
-    }
-}
-
-/// Begins a set of as many slots as the line says.
-pub fn run_set(
-    session: &mut Session,
-    numbers: &[usize],
-    lines: &[&str],
-) -> Result<usize, NewFault> {
+/// A set of as many slots as the line says.
+pub fn bounded(session: &Session, numbers: &[usize]) -> Result<KitSet<BoundedSet>, NewFault> {
     let alloc = session.options.alloc;
-    let n = numbers.first().copied().unwrap_or(0);
-    let set: FuturesUnorderedBounded<KitFuture, usize> = FuturesUnorderedBounded::new(alloc, n)?;
+    let set: BoundedSet = FuturesUnorderedBounded::new(alloc, first_of(numbers))?;
     let set = Kept::new(set);
     let keys = Vec::new(alloc);
-    run_made(session, Ok(KitSet { set, keys }), lines)
+    Ok(KitSet { set, keys })
 }
 
-fn new_growing(
-    alloc: Global,
-    numbers: &[usize],
-) -> Result<Kept<FuturesUnordered<KitFuture, usize>>, NewFault> {
-    match numbers.first() {
-        Some(n) => Ok(Kept::new(FuturesUnordered::with_capacity(alloc, *n)?)),
-        None => Ok(Kept::new(FuturesUnordered::new(alloc)?)),
-    }
-}
-
-/// Begins a set that grows, of as many slots as the line says, or of none.
-pub fn run_growing_set(
-    session: &mut Session,
-    numbers: &[usize],
-    lines: &[&str],
-) -> Result<usize, NewFault> {
+/// A set that grows, of as many slots as the line says, or of none.
+pub fn growing(session: &Session, numbers: &[usize]) -> Result<KitSet<GrowingSet>, NewFault> {
     let alloc = session.options.alloc;
-    let set = new_growing(alloc, numbers)?;
+    let set: GrowingSet = if numbers.is_empty() {
+        FuturesUnordered::new(alloc)?
+    } else {
+        FuturesUnordered::with_capacity(alloc, first_of(numbers))?
+    };
+    let set = Kept::new(set);
     let keys = Vec::new(alloc);
-    run_made(session, Ok(KitSet { set, keys }), lines)
+    Ok(KitSet { set, keys })
 }
 
 /// A set without tags.
-type UntaggedSet = Kept<FuturesUnorderedBounded<KitFuture>>;
+pub type UntaggedSet = Kept<FuturesUnorderedBounded<KitFuture>>;
 
 impl Subject for UntaggedSet {
     fn poll(&mut self, cx: &mut Context<'_>, _outputs: &mut Vec<u64>) -> Answer {
@@ -243,22 +219,22 @@ impl Subject for UntaggedSet {
                 self.clear();
                 Reply::Ok
             }
-            Call::Ask(Query::Debug) => of_debug(write!(text, "{:?}", self.get())),
-            Call::Ask(query) => ask_set(self.get(), query),
+            Call::Ask(query) => ask!(self.get(), query, text, Len len, IsEmpty is_empty,
+                Capacity capacity, IsFull is_full, SizeHint size_hint,
+                IsTerminated is_terminated),
             _ => Reply::Nothing,
         }
     }
 }
 
-/// Begins a set of the futures of the line.
-pub fn run_set_of(session: &mut Session, ids: &[usize], lines: &[&str]) -> Result<usize, NewFault> {
+/// A set of the futures of the line.
+pub fn bounded_of(session: &Session, ids: &[usize]) -> Result<UntaggedSet, NewFault> {
     let futures: Vec<KitFuture> = new_values(&session.world, ids);
-    let set = futures.into_unordered_stream(session.options.alloc)?;
-    run_made(session, Ok(Kept::new(set)), lines)
+    Ok(Kept::new(futures.into_unordered_stream(session.options.alloc)?))
 }
 
 /// A set that grows, without tags.
-type UntaggedGrowingSet = Kept<FuturesUnordered<KitFuture>>;
+pub type UntaggedGrowingSet = Kept<FuturesUnordered<KitFuture>>;
 
 impl Subject for UntaggedGrowingSet {
     fn poll(&mut self, cx: &mut Context<'_>, _outputs: &mut Vec<u64>) -> Answer {
@@ -278,144 +254,16 @@ impl Subject for UntaggedGrowingSet {
                 self.clear();
                 Reply::Ok
             }
-            Call::Ask(Query::Debug) => of_debug(write!(text, "{:?}", self.get())),
-            Call::Ask(query) => ask_set(self.get(), query),
+            Call::Ask(query) => ask!(self.get(), query, text, Len len, IsEmpty is_empty,
+                Capacity capacity, IsFull is_full, SizeHint size_hint,
+                IsTerminated is_terminated),
             _ => Reply::Nothing,
         }
     }
 }
 
-/// Begins a set that grows of the futures of the line.
-pub fn run_growing_set_of(
-    session: &mut Session,
-    ids: &[usize],
-    lines: &[&str],
-) -> Result<usize, NewFault> {
+/// A set that grows of the futures of the line.
+pub fn growing_of(session: &Session, ids: &[usize]) -> Result<UntaggedGrowingSet, NewFault> {
     let futures: Vec<KitFuture> = new_values(&session.world, ids);
-    let set = futures.into_unordered_stream_unbounded(session.options.alloc)?;
-    run_made(session, Ok(Kept::new(set)), lines)
-}
-
-/// A queue that keeps that its futures may be polled.
-type KitQueue = Kept<FuturesOrderedBounded<KitFuture>>;
-
-impl Subject for KitQueue {
-    fn poll(&mut self, cx: &mut Context<'_>, _outputs: &mut Vec<u64>) -> Answer {
-        of_next(self.poll_next(cx))
-    }
-
-    fn call(&mut self, call: Call<'_>, world: &SharedWorld, text: &mut String) -> Reply {
-        match call {
-            Call::Push(End::Back, id) => match new_value(world, id) {
-                Some(value) => {
-                    let pushed = self.try_push_back(value);
-                    of_full(pushed, self.get().is_full())
-                }
-                None => Reply::Nothing,
-            },
-            Call::Push(End::Front, id) => match new_value(world, id) {
-                Some(value) => {
-                    let pushed = self.try_push_front(value);
-                    of_full(pushed, self.get().is_full())
-                }
-                None => Reply::Nothing,
-            },
-            Call::Clear => {
-                self.clear();
-                Reply::Ok
-            }
-            Call::Ask(Query::Len) => Reply::Number(self.get().len()),
-            Call::Ask(Query::Capacity) => Reply::Number(self.get().capacity()),
-            Call::Ask(Query::IsFull) => Reply::Is(self.get().is_full()),
-            Call::Ask(Query::Debug) => of_debug(write!(text, "{:?}", self.get())),
-            _ => Reply::Nothing,
-        }
-    }
-}
-
-/// A queue that grows.
-type KitGrowingQueue = Kept<FuturesOrdered<KitFuture>>;
-
-impl Subject for KitGrowingQueue {
-    fn poll(&mut self, cx: &mut Context<'_>, _outputs: &mut Vec<u64>) -> Answer {
-        of_next(self.poll_next(cx))
-    }
-
-    fn call(&mut self, call: Call<'_>, world: &SharedWorld, text: &mut String) -> Reply {
-        match call {
-            Call::Push(End::Back, id) => match new_value(world, id) {
-                Some(value) => of_growth(self.push_back(value)),
-                None => Reply::Nothing,
-            },
-            Call::Push(End::Front, id) => match new_value(world, id) {
-                Some(value) => of_growth(self.push_front(value)),
-                None => Reply::Nothing,
-            },
-            Call::Clear => {
-                self.clear();
-                Reply::Ok
-            }
-            Call::Ask(Query::Len) => Reply::Number(self.get().len()),
-            Call::Ask(Query::Capacity) => Reply::Number(self.get().capacity()),
-            Call::Ask(Query::IsTerminated) => Reply::Is(self.get().is_terminated()),
-            Call::Ask(Query::Debug) => of_debug(write!(text, "{:?}", self.get())),
-            _ => Reply::Nothing,
-        }
-    }
-}
-
-/// Begins a queue with room for as many as the line says.
-pub fn run_queue(
-    session: &mut Session,
-    numbers: &[usize],
-    lines: &[&str],
-) -> Result<usize, NewFault> {
-    let n = numbers.first().copied().unwrap_or(0);
-    if n == 0 {
-        return Ok(0);
-    }
-    let queue: FuturesOrderedBounded<KitFuture> = FuturesOrderedBounded::new(
-        session.options.alloc,
-        n,
-    )?;
-    run_made(session, Ok(Kept::new(queue)), lines)
-}
-
-/// Begins a queue of the futures of the line.
-pub fn run_queue_of(
-    session: &mut Session,
-    ids: &[usize],
-    lines: &[&str],
-) -> Result<usize, NewFault> {
-    let futures: Vec<KitFuture> = new_values(&session.world, ids);
-    let queue = futures.into_ordered_stream(session.options.alloc)?;
-    run_made(session, Ok(Kept::new(queue)), lines)
-}
-
-fn new_growing_queue(alloc: Global, numbers: &[usize]) -> Result<KitGrowingQueue, NewFault> {
-    match numbers.first() {
-        Some(n) => Ok(Kept::new(FuturesOrdered::with_capacity(alloc, *n)?)),
-        None => Ok(Kept::new(FuturesOrdered::new(alloc)?)),
-    }
-}
-
-/// Begins a queue that grows, of as many slots as the line says, or of one.
-pub fn run_growing_queue(
-    session: &mut Session,
-    numbers: &[usize],
-    lines: &[&str],
-) -> Result<usize, NewFault> {
-    let queue = new_growing_queue(session.options.alloc, numbers);
-    run_made(session, queue, lines)
-}
-
-/// Begins a queue that grows of the futures of the line.
-pub fn run_growing_queue_of(
-    session: &mut Session,
-    ids: &[usize],
-    lines: &[&str],
-) -> Result<usize, NewFault> {
-    let futures: Vec<KitFuture> = new_values(&session.world, ids);
-    let queue = futures.into_ordered_stream_unbounded(session.options.alloc)?;
-    run_made(session, Ok(Kept::new(queue)), lines)
+    Ok(Kept::new(futures.into_unordered_stream_unbounded(session.options.alloc)?))
 }

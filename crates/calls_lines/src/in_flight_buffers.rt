@@ -1,8 +1,7 @@
 //! Buffers of the kit's futures.
-ghost use Rattle.std.specs.Prelude.{◌<◌, IfOk, IfSome};
+ghost use Rattle.std.specs.Prelude.{◌<◌, IfOk};
 
 use crate::answer::{Answer, Given, Reply, of_next};
-use crate::lines::run_made;
 use crate::session::Session;
 use crate::subject::{Call, Subject};
 use calls_world::shared_world::SharedWorld;
@@ -10,14 +9,21 @@ use calls_world::source::{FutureSource, TryFutureSource};
 use calls_world::task_script::{KitFuture, KitTryFuture};
 use futures::Stream;
 use futures::task::{Context, Poll};
-use futures_buffered::in_flight::{BufferedStreamExt, BufferedTryStreamExt};
+use futures_buffered::in_flight::{
+    BufferUnordered, BufferedOrdered, BufferedStreamExt, BufferedTryStreamExt, TryBufferUnordered,
+    TryBufferedOrdered,
+};
 use futures_buffered_core::ready_core::NewFault;
 use std::marker::Model;
+
+pub type Source = FutureSource<KitFuture>;
+
+pub type TrySource = TryFutureSource<KitTryFuture>;
 
 /// An adaptor of a stream of the kit's futures. No clause says that it may be polled after its end, so it is dropped
 /// there.
 #[derive(Drop)]
-struct KitBuffer<B: Stream> {
+pub struct KitBuffer<B: Stream> {
     buffer: Option<B>,
 }
 
@@ -51,84 +57,46 @@ where
     }
 }
 
-// The width of a buffer, if there is one.
-fn width(numbers: &[usize]) -> Option<usize>
-    ensures { IfSome result (λ n. 0 < n) }
-{
-    match numbers.first() {
-        Some(n) if *n > 0 => Some(*n),
-        _ => None,
-    }
-}
-
-// Begins an adaptor.
-fn run_made_buffer<B: Stream>(
-    session: &mut Session,
-    made: Result<B, NewFault>,
-    lines: &[&str],
-) -> Result<usize, NewFault>
-where
-    B::Item: Given,
+fn kept<B: Stream>(made: Result<B, NewFault>) -> Result<KitBuffer<B>, NewFault>
     requires { IfOk made B.can_poll }
 {
     let buffer = Some(made?);
-    run_made(session, Ok(KitBuffer { buffer }), lines)
+    Ok(KitBuffer { buffer })
 }
 
-pub fn run_buffer(
-    session: &mut Session,
-    numbers: &[usize],
-    lines: &[&str],
-) -> Result<usize, NewFault> {
-    let Some(n) = width(numbers) else {
-        return Ok(0);
-    };
-    let source: FutureSource<KitFuture> = FutureSource::new(&session.world, session.options.hint)?;
-    let made = source.buffered_unordered(session.options.alloc, n);
-    run_made_buffer(session, made, lines)
+pub fn unordered(
+    session: &Session,
+    n: usize,
+) -> Result<KitBuffer<BufferUnordered<Source>>, NewFault>
+    requires { 0 < n }
+{
+    let source: Source = FutureSource::new(&session.world, session.options.hint)?;
+    kept(source.buffered_unordered(session.options.alloc, n))
 }
 
-pub fn run_ordered_buffer(
-    session: &mut Session,
-    numbers: &[usize],
-    lines: &[&str],
-) -> Result<usize, NewFault> {
-    let Some(n) = width(numbers) else {
-        return Ok(0);
-    };
-    let source: FutureSource<KitFuture> = FutureSource::new(&session.world, session.options.hint)?;
-    let made = source.buffered_ordered(session.options.alloc, n);
-    run_made_buffer(session, made, lines)
+pub fn ordered(session: &Session, n: usize) -> Result<KitBuffer<BufferedOrdered<Source>>, NewFault>
+    requires { 0 < n }
+{
+    let source: Source = FutureSource::new(&session.world, session.options.hint)?;
+    kept(source.buffered_ordered(session.options.alloc, n))
 }
 
-pub fn run_try_buffer(
-    session: &mut Session,
-    numbers: &[usize],
-    lines: &[&str],
-) -> Result<usize, NewFault> {
-    let Some(n) = width(numbers) else {
-        return Ok(0);
-    };
-    let source: TryFutureSource<KitTryFuture> = TryFutureSource::new(
-        &session.world,
-        session.options.hint,
-    )?;
-    let made = source.try_buffered_unordered(session.options.alloc, n);
-    run_made_buffer(session, made, lines)
+pub fn try_unordered(
+    session: &Session,
+    n: usize,
+) -> Result<KitBuffer<TryBufferUnordered<TrySource, KitTryFuture>>, NewFault>
+    requires { 0 < n }
+{
+    let source: TrySource = TryFutureSource::new(&session.world, session.options.hint)?;
+    kept(source.try_buffered_unordered(session.options.alloc, n))
 }
 
-pub fn run_try_ordered_buffer(
-    session: &mut Session,
-    numbers: &[usize],
-    lines: &[&str],
-) -> Result<usize, NewFault> {
-    let Some(n) = width(numbers) else {
-        return Ok(0);
-    };
-    let source: TryFutureSource<KitTryFuture> = TryFutureSource::new(
-        &session.world,
-        session.options.hint,
-    )?;
-    let made = source.try_buffered_ordered(session.options.alloc, n);
-    run_made_buffer(session, made, lines)
+pub fn try_ordered(
+    session: &Session,
+    n: usize,
+) -> Result<KitBuffer<TryBufferedOrdered<TrySource, KitTryFuture>>, NewFault>
+    requires { 0 < n }
+{
+    let source: TrySource = TryFutureSource::new(&session.world, session.options.hint)?;
+    kept(source.try_buffered_ordered(session.options.alloc, n))
 }

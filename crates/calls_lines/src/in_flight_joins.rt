@@ -1,9 +1,7 @@
 //! Joins of the kit's futures, and merges of its streams.
-use crate::answer::{Answer, Reply, of_debug, of_listed, of_next, of_outputs, of_results};
-use crate::lines::run_made;
-use crate::session::Session;
+use crate::answer::{Answer, Reply, Told, ask, of_listed, of_next, of_outputs, of_results};
+use crate::session::{Session, first_of};
 use crate::subject::{Call, Subject};
-use calls_world::command::Query;
 use calls_world::shared_world::SharedWorld;
 use calls_world::task_script::{KitFuture, KitStream, KitTryFuture};
 use calls_world::values::{Output, new_value, new_values};
@@ -17,7 +15,7 @@ use std::marker::Model;
 
 /// A join of futures of the kit that may be polled.
 #[derive(Drop)]
-struct Joined<R, F: Future, A: Drop> {
+pub struct Joined<R, F: Future, A: Drop> {
     join: JoinBy<R, F, A>,
 }
 
@@ -32,51 +30,51 @@ impl<R, F: Future, A: Drop> Model for Joined<R, F, A> {
     ghost invariant = { λ s. CanPollFlying F.Future s.join };
 }
 
-impl Subject for Joined<AllOutputs, KitFuture, Output> {
+pub type KitJoin = Joined<AllOutputs, KitFuture, Output>;
+
+pub type KitTryJoin = Joined<UntilError, KitTryFuture, Output>;
+
+impl Subject for KitJoin {
     fn poll(&mut self, cx: &mut Context<'_>, outputs: &mut Vec<u64>) -> Answer {
         of_outputs(self.join.poll(cx), outputs)
     }
 
     fn call(&mut self, call: Call<'_>, _world: &SharedWorld, text: &mut String) -> Reply {
         match call {
-            Call::Ask(Query::Debug) => of_debug(write!(text, "{:?}", self.join)),
+            Call::Ask(query) => ask!(self.join, query, text),
             _ => Reply::Nothing,
         }
     }
 }
 
-pub fn run_join(session: &mut Session, ids: &[usize], lines: &[&str]) -> Result<usize, NewFault> {
+pub fn join(session: &Session, ids: &[usize]) -> Result<KitJoin, NewFault> {
     let futures: Vec<KitFuture> = new_values(&session.world, ids);
     let join = futures.join_all(session.options.alloc)?;
-    run_made(session, Ok(Joined { join }), lines)
+    Ok(Joined { join })
 }
 
-impl Subject for Joined<UntilError, KitTryFuture, Output> {
+impl Subject for KitTryJoin {
     fn poll(&mut self, cx: &mut Context<'_>, outputs: &mut Vec<u64>) -> Answer {
         of_results(self.join.poll(cx), outputs)
     }
 
     fn call(&mut self, call: Call<'_>, _world: &SharedWorld, text: &mut String) -> Reply {
         match call {
-            Call::Ask(Query::Debug) => of_debug(write!(text, "{:?}", self.join)),
+            Call::Ask(query) => ask!(self.join, query, text),
             _ => Reply::Nothing,
         }
     }
 }
 
-pub fn run_try_join(
-    session: &mut Session,
-    ids: &[usize],
-    lines: &[&str],
-) -> Result<usize, NewFault> {
+pub fn try_join(session: &Session, ids: &[usize]) -> Result<KitTryJoin, NewFault> {
     let futures: Vec<KitTryFuture> = new_values(&session.world, ids);
     let join = futures.try_join_all(session.options.alloc)?;
-    run_made(session, Ok(Joined { join }), lines)
+    Ok(Joined { join })
 }
 
 /// A merge of streams of the kit. A call of a subject asks nothing of it, so each stream may be polled at any time.
 #[derive(Drop)]
-struct KitMerge {
+pub struct KitMerge {
     merge: MergeUnbounded<KitStream>,
 }
 
@@ -108,41 +106,29 @@ impl Subject for KitMerge {
                 self.merge.clear();
                 Reply::Ok
             }
-            Call::Ask(Query::Len) => Reply::Number(self.merge.len()),
-            Call::Ask(Query::IsEmpty) => Reply::Is(self.merge.is_empty()),
-            Call::Ask(Query::Capacity) => Reply::Number(self.merge.capacity()),
-            Call::Ask(Query::IsFull) => Reply::Is(self.merge.is_full()),
-            Call::Ask(Query::Debug) => of_debug(write!(text, "{:?}", self.merge)),
+            Call::Ask(query) => ask!(self.merge, query, text, Len len, IsEmpty is_empty,
+                Capacity capacity, IsFull is_full),
             _ => Reply::Nothing,
         }
     }
 }
 
-/// Begins a merge without a limit of the streams of the line.
-pub fn run_merge(session: &mut Session, ids: &[usize], lines: &[&str]) -> Result<usize, NewFault> {
+/// A merge without a limit of the streams of the line.
+pub fn merge(session: &Session, ids: &[usize]) -> Result<KitMerge, NewFault> {
     let streams: Vec<KitStream> = new_values(&session.world, ids);
     let merge = streams.merge_unbounded(session.options.alloc)?;
-    run_made(session, Ok(KitMerge { merge }), lines)
+    Ok(KitMerge { merge })
 }
 
-/// Begins a merge of as many streams at most as the line says.
-pub fn run_bounded_merge(
-    session: &mut Session,
-    numbers: &[usize],
-    lines: &[&str],
-) -> Result<usize, NewFault> {
-    let n = numbers.first().copied().unwrap_or(0);
-    let merge = MergeBounded::new(session.options.alloc, n);
-    run_made(session, Ok(KitMerge { merge }), lines)
+/// A merge of as many streams at most as the line says.
+pub fn bounded_merge(session: &Session, numbers: &[usize]) -> Result<KitMerge, NewFault> {
+    let merge = MergeBounded::new(session.options.alloc, first_of(numbers));
+    Ok(KitMerge { merge })
 }
 
-/// Begins a merge of the streams of the line, with room for no other.
-pub fn run_bounded_merge_of(
-    session: &mut Session,
-    ids: &[usize],
-    lines: &[&str],
-) -> Result<usize, NewFault> {
+/// A merge of the streams of the line, with room for no other.
+pub fn bounded_merge_of(session: &Session, ids: &[usize]) -> Result<KitMerge, NewFault> {
     let streams: Vec<KitStream> = new_values(&session.world, ids);
     let merge = streams.merge(session.options.alloc)?;
-    run_made(session, Ok(KitMerge { merge }), lines)
+    Ok(KitMerge { merge })
 }

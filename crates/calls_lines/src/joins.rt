@@ -1,9 +1,7 @@
 //! Joins.
-use crate::answer::{Answer, Reply, of_debug, of_outputs, of_results};
-use crate::lines::run_made;
-use crate::session::{Options, Session};
+use crate::answer::{Answer, Reply, Told, ask, of_outputs, of_results};
+use crate::session::Session;
 use crate::subject::{Call, Subject};
-use calls_world::command::Query;
 use calls_world::shared_world::SharedWorld;
 use calls_world::values::{NumberFuture, Output, TryFuture, new_values};
 use futures::Future;
@@ -23,8 +21,7 @@ impl<F: SlotFuture<S::Waker, Output = Output>, S: ReadySource> Subject for JoinA
 
     fn call(&mut self, call: Call<'_>, _world: &SharedWorld, text: &mut String) -> Reply {
         match call {
-            Call::Ask(Query::IsTerminated) => Reply::Is(self.is_terminated()),
-            Call::Ask(Query::Debug) => of_debug(write!(text, "{self:?}")),
+            Call::Ask(query) => ask!(self, query, text, IsTerminated is_terminated),
             _ => Reply::Nothing,
         }
     }
@@ -42,47 +39,32 @@ where
 
     fn call(&mut self, call: Call<'_>, _world: &SharedWorld, text: &mut String) -> Reply {
         match call {
-            Call::Ask(Query::IsTerminated) => Reply::Is(self.is_terminated()),
-            Call::Ask(Query::Debug) => of_debug(write!(text, "{self:?}")),
+            Call::Ask(query) => ask!(self, query, text, IsTerminated is_terminated),
             _ => Reply::Nothing,
         }
     }
 }
 
-fn new_join(
-    options: &Options,
-    futures: Vec<NumberFuture>,
-) -> Result<JoinAll<NumberFuture, SharedReady>, NewFault> {
-    if options.takes_source {
-        JoinAll::over(&(), options.alloc, futures)
-    } else {
-        futures.join_all(options.alloc)
-    }
-}
-
-fn new_try_join(
-    options: &Options,
-    futures: Vec<TryFuture>,
-) -> Result<TryJoinAll<TryFuture, SharedReady>, NewFault> {
-    if options.takes_source {
-        TryJoinAll::over(&(), options.alloc, futures)
-    } else {
-        futures.try_join_all(options.alloc)
-    }
-}
-
-pub fn run_join(session: &mut Session, ids: &[usize], lines: &[&str]) -> Result<usize, NewFault> {
-    let futures: Vec<NumberFuture> = new_values(&session.world, ids);
-    let made = new_join(&session.options, futures);
-    run_made(session, made, lines)
-}
-
-pub fn run_try_join(
-    session: &mut Session,
+pub fn join(
+    session: &Session,
     ids: &[usize],
-    lines: &[&str],
-) -> Result<usize, NewFault> {
+) -> Result<JoinAll<NumberFuture, SharedReady>, NewFault> {
+    let futures: Vec<NumberFuture> = new_values(&session.world, ids);
+    if session.options.takes_source {
+        JoinAll::over(&(), session.options.alloc, futures)
+    } else {
+        futures.join_all(session.options.alloc)
+    }
+}
+
+pub fn try_join(
+    session: &Session,
+    ids: &[usize],
+) -> Result<TryJoinAll<TryFuture, SharedReady>, NewFault> {
     let futures: Vec<TryFuture> = new_values(&session.world, ids);
-    let made = new_try_join(&session.options, futures);
-    run_made(session, made, lines)
+    if session.options.takes_source {
+        TryJoinAll::over(&(), session.options.alloc, futures)
+    } else {
+        futures.try_join_all(session.options.alloc)
+    }
 }

@@ -1,4 +1,6 @@
 //! Goes through the lines of a file: those of an object, from its begin to its end, and those between.
+ghost use Rattle.std.specs.Prelude.{◌<◌};
+
 use crate::answer::fault_word;
 use crate::kinds::run_kind;
 use crate::session::Session;
@@ -68,7 +70,7 @@ impl Session {
     fn line<O: Subject>(&mut self, object: &mut O, line: &str)
         requires { O.can_poll }
     {
-        self.report.begin_line();
+        self.report.begin_line(line);
         match parse(line) {
             Line::Call(call, wanted) if !self.report.test_is_over => {
                 self.reply.clear();
@@ -119,6 +121,39 @@ pub fn run_made<O: Subject>(
 {
     let mut object = made?;
     Ok(session.run_object(&mut object, lines))
+}
+
+/// The same of an object that is made of the numbers of the first line.
+pub fn run<O: Subject, F: FnOnce(&Session, &[usize]) -> Result<O, NewFault>>(
+    session: &mut Session,
+    make: F,
+    numbers: &[usize],
+    lines: &[&str],
+) -> Result<usize, NewFault>
+    requires polls { O.can_poll }
+    requires makes { F.IsAlwaysCallable make }
+{
+    let made = make(session, numbers);
+    run_made(session, made, lines)
+}
+
+/// The same of an object with room for as many as the line says. 0 if that is none.
+pub fn run_with_room<O: Subject, F: FnOnce(&Session, usize) -> Result<O, NewFault>>(
+    session: &mut Session,
+    make: F,
+    numbers: &[usize],
+    lines: &[&str],
+) -> Result<usize, NewFault>
+    requires polls { O.can_poll }
+    requires makes { (session : _) (n : _) → 0 < n → F.pre make session n }
+{
+    match numbers.first() {
+        Some(n) if *n > 0 => {
+            let made = make(session, *n);
+            run_made(session, made, lines)
+        }
+        _ => Ok(0),
+    }
 }
 
 // How many lines were done with the object, 0 where a word is no number.
@@ -177,7 +212,7 @@ fn begin(session: &mut Session, kind: Kind, words: &str, line: &str, lines: &[&s
 fn bare_line(session: &mut Session, line: &str) {
     match parse(line) {
         Line::Test(name) => {
-            session.report.begin_line();
+            session.report.begin_line(line);
             session.begin_test(name);
         }
         _ => session.line(&mut Nothing, line),

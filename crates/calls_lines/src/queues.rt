@@ -1,9 +1,8 @@
 //! Ordered queues of futures.
-use crate::answer::{Answer, Given, Reply, of_debug, of_growth, of_hint, of_listed, of_next};
-use crate::lines::run_made;
-use crate::session::{Options, Session};
+use crate::answer::{Answer, Given, Reply, Told, ask, of_growth, of_listed, of_next};
+use crate::session::{Session, first_of};
 use crate::subject::{Call, Subject};
-use calls_world::command::{End, Query};
+use calls_world::command::End;
 use calls_world::shared_world::SharedWorld;
 use calls_world::values::{NumberFuture, Scripted, new_value, new_values};
 use futures::Stream;
@@ -16,9 +15,9 @@ use futures_buffered_sets::{
     FusedStream, FuturesOrdered, FuturesOrderedBounded, SizeHint, SlotFuture,
 };
 
-type Queue = FuturesOrderedBounded<NumberFuture, SharedReady>;
+pub type Queue = FuturesOrderedBounded<NumberFuture, SharedReady>;
 
-type GrowingQueue = FuturesOrdered<NumberFuture, SharedReady>;
+pub type GrowingQueue = FuturesOrdered<NumberFuture, SharedReady>;
 
 impl<F: Scripted + SlotFuture<S::Waker>, S: ReadySource> Subject for FuturesOrderedBounded<F, S>
 where
@@ -32,16 +31,13 @@ where
 
     fn call(&mut self, call: Call<'_>, world: &SharedWorld, text: &mut String) -> Reply {
         match call {
-            Call::Push(End::Back, id) => match new_value(world, id) {
+            Call::Push(End::Any, _) => Reply::Nothing,
+            Call::Push(end, id) => match new_value(world, id) {
                 Some(value) => {
-                    let pushed = self.try_push_back(value);
-                    of_listed(pushed, self.is_full())
-                }
-                None => Reply::Nothing,
-            },
-            Call::Push(End::Front, id) => match new_value(world, id) {
-                Some(value) => {
-                    let pushed = self.try_push_front(value);
+                    let pushed = match end {
+                        End::Front => self.try_push_front(value),
+                        _ => self.try_push_back(value),
+                    };
                     of_listed(pushed, self.is_full())
                 }
                 None => Reply::Nothing,
@@ -54,13 +50,8 @@ where
                 self.clear();
                 Reply::Ok
             }
-            Call::Ask(Query::Len) => Reply::Number(self.len()),
-            Call::Ask(Query::Capacity) => Reply::Number(self.capacity()),
-            Call::Ask(Query::Limit) => Reply::Number(self.limit()),
-            Call::Ask(Query::IsFull) => Reply::Is(self.is_full()),
-            Call::Ask(Query::SizeHint) => of_hint(self.size_hint()),
-            Call::Ask(Query::IsTerminated) => Reply::Is(self.is_terminated()),
-            Call::Ask(Query::Debug) => of_debug(write!(text, "{self:?}")),
+            Call::Ask(query) => ask!(self, query, text, Len len, Capacity capacity, Limit limit,
+                IsFull is_full, SizeHint size_hint, IsTerminated is_terminated),
             _ => Reply::Nothing,
         }
     }
@@ -91,107 +82,50 @@ where
                 self.clear();
                 Reply::Ok
             }
-            Call::Ask(Query::Len) => Reply::Number(self.len()),
-            Call::Ask(Query::Limit) => Reply::Number(self.limit()),
-            Call::Ask(Query::SizeHint) => of_hint(self.size_hint()),
-            Call::Ask(Query::IsTerminated) => Reply::Is(self.is_terminated()),
-            Call::Ask(Query::Debug) => of_debug(write!(text, "{self:?}")),
+            Call::Ask(query) => ask!(self, query, text, Len len, Limit limit, SizeHint size_hint,
+                IsTerminated is_terminated),
             _ => Reply::Nothing,
         }
     }
 }
 
-fn queue_over(options: &Options, n: usize) -> Result<Queue, NewFault> {
-    match options.limit {
-        Some(limit) if limit > 0 => {
-            FuturesOrderedBounded::over_limit(&(), options.alloc, n, limit)
+pub fn bounded(session: &Session, numbers: &[usize]) -> Result<Queue, NewFault> {
+    let alloc = session.options.alloc;
+    let n = first_of(numbers);
+    match session.options.limit {
+        Some(limit) if limit > 0 && session.options.takes_source => {
+            FuturesOrderedBounded::over_limit(&(), alloc, n, limit)
         }
-        _ => FuturesOrderedBounded::over(&(), options.alloc, n),
+        Some(limit) if limit > 0 => FuturesOrderedBounded::with_limit(alloc, n, limit),
+        _ if session.options.takes_source => FuturesOrderedBounded::over(&(), alloc, n),
+        _ => FuturesOrderedBounded::new(alloc, n),
     }
 }
 
-fn new_queue(options: &Options, n: usize) -> Result<Queue, NewFault> {
-    if options.takes_source {
-        return queue_over(options, n);
-    }
-    match options.limit {
-        Some(limit) if limit > 0 => FuturesOrderedBounded::with_limit(options.alloc, n, limit),
-        _ => FuturesOrderedBounded::new(options.alloc, n),
-    }
+pub fn bounded_of(session: &Session, ids: &[usize]) -> Result<Queue, NewFault> {
+    let futures: Vec<NumberFuture> = new_values(&session.world, ids);
+    futures.into_ordered_stream(session.options.alloc)
 }
 
-fn growing_queue_over(options: &Options, n: usize) -> Result<GrowingQueue, NewFault> {
-    match options.limit {
-        Some(limit) if limit > 0 => FuturesOrdered::over_limit((), options.alloc, n, limit),
-        _ => FuturesOrdered::over((), options.alloc, n),
-    }
-}
-
-fn new_growing_queue(options: &Options, n: Option<usize>) -> Result<GrowingQueue, NewFault> {
-    if options.takes_source {
-        return growing_queue_over(options, n.unwrap_or(0));
-    }
-    if let Some(limit) = options.limit {
-        if limit > 0 {
-            return FuturesOrdered::with_limit(options.alloc, n.unwrap_or(0), limit);
+pub fn growing(session: &Session, numbers: &[usize]) -> Result<GrowingQueue, NewFault> {
+    let alloc = session.options.alloc;
+    let n = first_of(numbers);
+    match session.options.limit {
+        Some(limit) if limit > 0 && session.options.takes_source => {
+            FuturesOrdered::over_limit((), alloc, n, limit)
         }
+        Some(limit) if limit > 0 => FuturesOrdered::with_limit(alloc, n, limit),
+        _ if session.options.takes_source => FuturesOrdered::over((), alloc, n),
+        _ if numbers.is_empty() => Ok(FuturesOrdered::new(alloc)),
+        _ => FuturesOrdered::with_capacity(alloc, n),
     }
-    match n {
-        Some(n) => FuturesOrdered::with_capacity(options.alloc, n),
-        None => Ok(FuturesOrdered::new(options.alloc)),
-    }
 }
 
-fn growing_queue_of(
-    options: &Options,
-    futures: Vec<NumberFuture>,
-) -> Result<GrowingQueue, NewFault> {
-    if options.is_filtered {
-        return FuturesOrdered::from_iter(options.alloc, futures.into_iter().filter(|_| true));
-    }
-    futures.into_ordered_stream_unbounded(options.alloc)
-}
-
-pub fn run_queue(
-    session: &mut Session,
-    numbers: &[usize],
-    lines: &[&str],
-) -> Result<usize, NewFault> {
-    let made: Result<Queue, NewFault> = new_queue(
-        &session.options,
-        numbers.first().copied().unwrap_or(0),
-    );
-    run_made(session, made, lines)
-}
-
-pub fn run_growing_queue(
-    session: &mut Session,
-    numbers: &[usize],
-    lines: &[&str],
-) -> Result<usize, NewFault> {
-    let made: Result<GrowingQueue, NewFault> = new_growing_queue(
-        &session.options,
-        numbers.first().copied(),
-    );
-    run_made(session, made, lines)
-}
-
-pub fn run_queue_of(
-    session: &mut Session,
-    ids: &[usize],
-    lines: &[&str],
-) -> Result<usize, NewFault> {
+pub fn growing_of(session: &Session, ids: &[usize]) -> Result<GrowingQueue, NewFault> {
     let futures: Vec<NumberFuture> = new_values(&session.world, ids);
-    let made = futures.into_ordered_stream(session.options.alloc);
-    run_made(session, made, lines)
-}
-
-pub fn run_growing_queue_of(
-    session: &mut Session,
-    ids: &[usize],
-    lines: &[&str],
-) -> Result<usize, NewFault> {
-    let futures: Vec<NumberFuture> = new_values(&session.world, ids);
-    let made = growing_queue_of(&session.options, futures);
-    run_made(session, made, lines)
+    let alloc = session.options.alloc;
+    if session.options.is_filtered {
+        return FuturesOrdered::from_iter(alloc, futures.into_iter().filter(|_| true));
+    }
+    futures.into_ordered_stream_unbounded(alloc)
 }

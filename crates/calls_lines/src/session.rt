@@ -121,6 +121,11 @@ pub fn task_of(rest: &str, usual: usize) -> usize {
     number(rest).unwrap_or(TASKS)
 }
 
+/// The first number of a line, or 0.
+pub fn first_of(numbers: &[usize]) -> usize {
+    numbers.first().copied().unwrap_or(0)
+}
+
 impl Session {
     /// Begins a test: all is as at the start.
     pub fn begin_test(&mut self, name: &str) {
@@ -158,7 +163,7 @@ impl Session {
 
     /// The reply to the line is this word.
     pub fn reply_word(&mut self, line: &str, word: &str) {
-        self.report.begin_line();
+        self.report.begin_line(line);
         match parse(line) {
             Line::Call(call, wanted) if !self.report.test_is_over => {
                 self.reply.clear();

@@ -1,9 +1,8 @@
 //! Sets of futures.
-use crate::answer::{Answer, Given, Reply, of_debug, of_growth, of_hint, of_next, of_push};
-use crate::lines::run_made;
-use crate::session::{Options, Session};
+use crate::answer::{Answer, Given, Reply, Told, ask, of_growth, of_next, of_push};
+use crate::session::{Options, Session, first_of};
 use crate::subject::{Call, Subject};
-use calls_world::command::{End, Query};
+use calls_world::command::End;
 use calls_world::shared_world::SharedWorld;
 use calls_world::values::{NumberFuture, Scripted, new_value, new_values};
 use futures::Stream;
@@ -20,9 +19,9 @@ use std::alloc::Global;
 use std::sync::atomic::AtomicU64;
 use std::sync::atomic::Ordering::SeqCst;
 
-type Set = FuturesUnorderedBounded<NumberFuture, SharedReady>;
+pub type Set = FuturesUnorderedBounded<NumberFuture, SharedReady>;
 
-type GrowingSet = FuturesUnordered<NumberFuture, SharedReady>;
+pub type GrowingSet = FuturesUnordered<NumberFuture, SharedReady>;
 
 impl<F: Scripted + SlotFuture<S::Waker>, S: ReadySource> Subject for FuturesUnorderedBounded<F, S>
 where
@@ -45,13 +44,8 @@ where
                 self.clear();
                 Reply::Ok
             }
-            Call::Ask(Query::Len) => Reply::Number(self.len()),
-            Call::Ask(Query::Capacity) => Reply::Number(self.capacity()),
-            Call::Ask(Query::Limit) => Reply::Number(self.limit()),
-            Call::Ask(Query::IsFull) => Reply::Is(self.is_full()),
-            Call::Ask(Query::SizeHint) => of_hint(self.size_hint()),
-            Call::Ask(Query::IsTerminated) => Reply::Is(self.is_terminated()),
-            Call::Ask(Query::Debug) => of_debug(write!(text, "{self:?}")),
+            Call::Ask(query) => ask!(self, query, text, Len len, Capacity capacity, Limit limit,
+                IsFull is_full, SizeHint size_hint, IsTerminated is_terminated),
             _ => Reply::Nothing,
         }
     }
@@ -69,29 +63,19 @@ fn set_over(options: &Options, n: usize) -> Result<Set, NewFault> {
     }
 }
 
-fn new_set(options: &Options, n: usize) -> Result<Set, NewFault> {
-    if options.takes_source {
-        return set_over(options, n);
-    }
+pub fn bounded(session: &Session, numbers: &[usize]) -> Result<Set, NewFault> {
+    let options = &session.options;
+    let n = first_of(numbers);
     match options.limit {
+        _ if options.takes_source => set_over(options, n),
         Some(limit) if limit > 0 => FuturesUnorderedBounded::with_limit(options.alloc, n, limit),
         _ => FuturesUnorderedBounded::new(options.alloc, n),
     }
 }
 
-pub fn run_set(
-    session: &mut Session,
-    numbers: &[usize],
-    lines: &[&str],
-) -> Result<usize, NewFault> {
-    let made: Result<Set, NewFault> = new_set(
-        &session.options,
-        numbers.first().copied().unwrap_or(0),
-    );
-    run_made(session, made, lines)
-}
-
-fn set_of(options: &Options, futures: Vec<NumberFuture>) -> Result<Set, NewFault> {
+pub fn bounded_of(session: &Session, ids: &[usize]) -> Result<Set, NewFault> {
+    let futures: Vec<NumberFuture> = new_values(&session.world, ids);
+    let options = &session.options;
     match options.limit {
         Some(limit) if limit > 0 => {
             FuturesUnorderedBounded::over_limit(&(), options.alloc, futures, limit)
@@ -102,12 +86,6 @@ fn set_of(options: &Options, futures: Vec<NumberFuture>) -> Result<Set, NewFault
         }
         _ => futures.into_unordered_stream(options.alloc),
     }
-}
-
-pub fn run_set_of(session: &mut Session, ids: &[usize], lines: &[&str]) -> Result<usize, NewFault> {
-    let futures: Vec<NumberFuture> = new_values(&session.world, ids);
-    let made = set_of(&session.options, futures);
-    run_made(session, made, lines)
 }
 
 impl<F: Scripted + SlotFuture<S::Waker>, S: NewSource> Subject for FuturesUnordered<F, S>
@@ -131,36 +109,24 @@ where
                 self.clear();
                 Reply::Ok
             }
-            Call::Ask(Query::Len) => Reply::Number(self.len()),
-            Call::Ask(Query::Capacity) => Reply::Number(self.capacity()),
-            Call::Ask(Query::Limit) => Reply::Number(self.limit()),
-            Call::Ask(Query::SizeHint) => of_hint(self.size_hint()),
-            Call::Ask(Query::IsTerminated) => Reply::Is(self.is_terminated()),
-            Call::Ask(Query::Debug) => of_debug(write!(text, "{self:?}")),
+            Call::Ask(query) => ask!(self, query, text, Len len, Capacity capacity, Limit limit,
+                SizeHint size_hint, IsTerminated is_terminated),
             _ => Reply::Nothing,
         }
     }
 }
 
-fn growing_set_over(options: &Options, n: usize) -> Result<GrowingSet, NewFault> {
-    match options.limit {
-        Some(limit) if limit > 0 => FuturesUnordered::over_limit((), options.alloc, n, limit),
-        _ => FuturesUnordered::over((), options.alloc, n),
-    }
-}
-
-fn new_growing_set(options: &Options, n: Option<usize>) -> Result<GrowingSet, NewFault> {
-    if options.takes_source {
-        return growing_set_over(options, n.unwrap_or(0));
-    }
-    if let Some(limit) = options.limit {
-        if limit > 0 {
-            return FuturesUnordered::with_limit(options.alloc, n.unwrap_or(0), limit);
+pub fn growing(session: &Session, numbers: &[usize]) -> Result<GrowingSet, NewFault> {
+    let alloc = session.options.alloc;
+    let n = first_of(numbers);
+    match session.options.limit {
+        Some(limit) if limit > 0 && session.options.takes_source => {
+            FuturesUnordered::over_limit((), alloc, n, limit)
         }
-    }
-    match n {
-        Some(n) => FuturesUnordered::with_capacity(options.alloc, n),
-        None => Ok(FuturesUnordered::new(options.alloc)),
+        Some(limit) if limit > 0 => FuturesUnordered::with_limit(alloc, n, limit),
+        _ if session.options.takes_source => FuturesUnordered::over((), alloc, n),
+        _ if numbers.is_empty() => Ok(FuturesUnordered::new(alloc)),
+        _ => FuturesUnordered::with_capacity(alloc, n),
     }
 }
 
@@ -179,7 +145,7 @@ fn asks_for_memory(draws: u64) -> bool {
 }
 
 // Where memory is refused, no item is drawn behind the one that it was for.
-fn growing_set_of_filtered(
+fn growing_of_filtered(
     alloc: Global,
     world: &SharedWorld,
     futures: Vec<NumberFuture>,
@@ -193,29 +159,12 @@ fn growing_set_of_filtered(
     made
 }
 
-pub fn run_growing_set(
-    session: &mut Session,
-    numbers: &[usize],
-    lines: &[&str],
-) -> Result<usize, NewFault> {
-    let made: Result<GrowingSet, NewFault> = new_growing_set(
-        &session.options,
-        numbers.first().copied(),
-    );
-    run_made(session, made, lines)
-}
-
-pub fn run_growing_set_of(
-    session: &mut Session,
-    ids: &[usize],
-    lines: &[&str],
-) -> Result<usize, NewFault> {
+pub fn growing_of(session: &Session, ids: &[usize]) -> Result<GrowingSet, NewFault> {
     let futures: Vec<NumberFuture> = new_values(&session.world, ids);
     let alloc = session.options.alloc;
-    let made = if session.options.is_filtered {
-        growing_set_of_filtered(alloc, &session.world, futures)
+    if session.options.is_filtered {
+        growing_of_filtered(alloc, &session.world, futures)
     } else {
         futures.into_unordered_stream_unbounded(alloc)
-    };
-    run_made(session, made, lines)
+    }
 }

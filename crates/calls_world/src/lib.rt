@@ -2,7 +2,7 @@
 //! of a line.
 //!
 //! - `memory`, `numbers`, `text`: lists, the numbers of a line, and texts that grow while memory may be refused.
-//! - `command`, `line`: the words of a line.
+//! - `each`, `command`, `line`: the words of a line, and lines that stand for many.
 //! - `step`, `effects`, `world`, `shared_world`: how values act in each poll, and what polls and drops left to be told.
 //! - `script`, `values`, `task_script`, `source`: the values: futures and streams for slots and of the kit, and the stream
 //!   of an adaptor.
@@ -11,6 +11,7 @@
 
 pub mod command;
 pub mod counter;
+pub mod each;
 pub mod effects;
 pub mod line;
 pub mod memory;

@@ -55,8 +55,9 @@ fn call_of<'a>(line: &'a str) -> Line<'a> {
     }
 }
 
-/// The parts of a line.
+/// The parts of a line. A line that comes from an `each` begins with a space.
 pub fn parse<'a>(line: &'a str) -> Line<'a> {
+    let line = line.strip_prefix(' ').unwrap_or(line);
     if line.is_empty() || line.starts_with('#') {
         return Line::Remark;
     }

@@ -57,8 +57,11 @@ impl Report {
         self.file.append(file);
     }
 
-    pub fn begin_line(&mut self) {
-        self.line = self.line.saturating_add(1);
+    /// A line that begins with a space comes from the `each` before it, and has its number.
+    pub fn begin_line(&mut self, line: &str) {
+        if !line.starts_with(' ') {
+            self.line = self.line.saturating_add(1);
+        }
     }
 
     pub fn begin_test(&mut self, name: &str) {
