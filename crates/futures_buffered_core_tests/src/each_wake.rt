@@ -1,16 +1,15 @@
 // Two threads make a wake each in one round after another, and the next round begins once both slots are named. So no
 // later wake stands in for one that was lost: whoever takes is woken, or the test fails.
+use crate::run_on::run_on;
 use crate::same::assert_same;
-use crate::slots::waker_of;
+use crate::slots::{Parts, new_parts};
 use futures_buffered_core::ready_core::Taken;
 use futures_buffered_core::ready_shared::{OuterWaker, SharedReady, SharedWaker};
 use futures_buffered_core::ready_source::SlotWaker;
-use std::alloc::{AllocError, Global};
-use std::sync::Arc;
 use std::sync::atomic::AtomicU64;
 use std::sync::atomic::Ordering::SeqCst;
 use std::test::Fail;
-use std::thread::{self, JoinHandle, Threads, yield_now};
+use std::thread::{self, Threads, yield_now};
 use std::time::{Clock, Instant};
 
 // How long the threads wake.
@@ -44,15 +43,14 @@ fn new_seat() -> Seat {
     }
 }
 
-fn new_shared(alloc: Global) -> Result<Arc<Shared>, AllocError> {
-    let shared = Shared {
+fn new_shared() -> Shared {
+    Shared {
         first: new_seat(),
         second: new_seat(),
         round: AtomicU64::new(0),
         is_woken: AtomicU64::new(0),
         stops: AtomicU64::new(0),
-    };
-    Ok(Arc::new(alloc, shared)?)
+    }
 }
 
 impl Shared {
@@ -73,15 +71,17 @@ impl Shared {
 
 // Says that it was woken.
 #[derive(Drop)]
-struct Says {
-    shared: Arc<Shared>,
+struct Says<'a> {
+    shared: &'a Shared,
 }
 
-impl OuterWaker for Says {
+impl<'a> OuterWaker for Says<'a> {
     fn wake_outer(self) {
         self.shared.is_woken.store(1, SeqCst);
     }
 }
+
+type Source<'a> = SharedReady<Says<'a>>;
 
 // Waits for a round to begin: whether it does before the threads have to stop.
 fn begins(shared: &Shared, round: u64) -> bool {
@@ -108,7 +108,8 @@ fn pause(shared: &Shared, slot: usize, round: u64) {
 }
 
 // Makes one wake in each round.
-fn wake_often(shared: &Shared, slot: usize, waker: &SharedWaker<Says>) {
+fn wake_often(shared: &Shared, waker: &SharedWaker<Says<'_>>) {
+    let slot = waker.slot();
     let seat = shared.seat(slot);
     for round in 1..u64::MAX {
         if !begins(shared, round) {
@@ -120,19 +121,8 @@ fn wake_often(shared: &Shared, slot: usize, waker: &SharedWaker<Says>) {
     }
 }
 
-fn start<R: Threads>(
-    rt: &R,
-    source: &SharedReady<Says>,
-    shared: &Arc<Shared>,
-    slot: usize,
-) -> Result<JoinHandle<()>, Fail> {
-    let waker = waker_of(source, slot)?;
-    let shared = Arc::try_clone(shared)?;
-    Ok(thread::spawn(rt, move || { wake_often(&shared, slot, &waker) })?)
-}
-
 // Takes until no slot is marked.
-fn take_all(source: &mut SharedReady<Says>, shared: &Shared) {
+fn take_all(source: &mut Source<'_>, shared: &Shared) {
     for _ in 0..u64::MAX {
         match source.take() {
             Taken::Slot(slot) => {
@@ -158,12 +148,6 @@ fn is_woken(shared: &Shared, round: u64) -> bool {
     false
 }
 
-fn put_in(source: &mut SharedReady<Says>, shared: &Arc<Shared>) -> Result<(), AllocError> {
-    let shared = Arc::try_clone(shared)?;
-    source.set_outer(Says { shared });
-    Ok(())
-}
-
 fn is_over<C: Clock>(clock: &C, start: &Instant) -> bool {
     match start.elapsed(clock) {
         Ok(time) => time.as_millis() >= MILLISECONDS,
@@ -173,77 +157,87 @@ fn is_over<C: Clock>(clock: &C, start: &Instant) -> bool {
 
 // Puts an outer waker in and takes all, whenever the one before was woken, until both slots are named: whether each was
 // woken.
-fn answer_round(
-    source: &mut SharedReady<Says>,
-    shared: &Arc<Shared>,
-    round: u64,
-) -> Result<bool, AllocError> {
+fn answer_round<'a>(source: &mut Source<'a>, shared: &'a Shared, round: u64) -> bool {
     for _ in 0..u64::MAX {
         if !is_woken(shared, round) {
-            return Ok(false);
+            return false;
         }
         shared.is_woken.store(0, SeqCst);
-        put_in(source, shared)?;
+        source.set_outer(Says { shared });
         take_all(source, shared);
         if shared.is_named(round) {
-            return Ok(true);
+            return true;
         }
     }
-    Ok(true)
+    true
 }
 
 // Has both threads wake in round after round until the time is over: whether each wake was answered.
-fn answer_all<C: Clock>(
+fn answer_all<'a, C: Clock>(
     clock: &C,
     start: &Instant,
-    source: &mut SharedReady<Says>,
-    shared: &Arc<Shared>,
-) -> Result<bool, AllocError> {
-    put_in(source, shared)?;
+    source: &mut Source<'a>,
+    shared: &'a Shared,
+) -> bool {
+    source.set_outer(Says { shared });
     for round in 1..u64::MAX {
         shared.round.store(round, SeqCst);
-        if !answer_round(source, shared, round)? {
-            return Ok(false);
+        if !answer_round(source, shared, round) {
+            return false;
         }
         if round % 256 == 0 && is_over(clock, start) {
-            return Ok(true);
+            return true;
         }
     }
-    Ok(true)
+    true
 }
 
-fn answer_in_time<C: Clock>(
+// The same, and then the threads stop.
+fn answer_and_stop<'a, C: Clock>(
     clock: &C,
-    source: &mut SharedReady<Says>,
-    shared: &Arc<Shared>,
-) -> Result<bool, Fail> {
-    let start = Instant::now(clock)?;
-    Ok(answer_all(clock, &start, source, shared)?)
-}
-
-// The same while two threads wake, each of which has ended then.
-fn answer_both<R: Threads + Clock>(
-    rt: &R,
-    source: &mut SharedReady<Says>,
-    shared: &Arc<Shared>,
-) -> Result<bool, Fail> {
-    let first = start(rt, source, shared, 0)?;
-    let second = start(rt, source, shared, 1)?;
-    let answered = answer_in_time(rt, source, shared);
+    start: &Instant,
+    source: &mut Source<'a>,
+    shared: &'a Shared,
+) -> bool {
+    let answered = answer_all(clock, start, source, shared);
     shared.stops.store(1, SeqCst);
-    first.join(rt);
-    second.join(rt);
     answered
 }
 
-fn is_each_answered<R: Threads + Clock>(rt: &R, alloc: Global) -> Result<bool, Fail> {
-    let mut source = SharedReady::new(alloc, 2)?;
-    let shared = new_shared(alloc)?;
-    answer_both(rt, &mut source, &shared)
+fn wake_both<R: Threads>(
+    rt: &R,
+    shared: &Shared,
+    first: &SharedWaker<Says<'_>>,
+    second: &SharedWaker<Says<'_>>,
+) {
+    thread::join(
+        rt,
+        || wake_often(shared, first),
+        || wake_often(shared, second),
+    );
+}
+
+// The same while two threads wake.
+fn answer_both<'a, R: Threads + Clock + Sync>(
+    rt: &R,
+    start: &Instant,
+    (first, second, source): &mut Parts<Says<'a>>,
+    shared: &'a Shared,
+) -> bool {
+    let ((), answered) = thread::join(
+        rt,
+        || wake_both(rt, shared, first, second),
+        || answer_and_stop(rt, start, source, shared),
+    );
+    answered
 }
 
 #[test]
 fn each_wake_of_two_threads_is_answered(rt: HostRuntime) -> Result<(), Fail> {
-    assert_same(&rt, is_each_answered(&rt, rt.alloc())?, true);
-    Ok(())
+    let shared = new_shared();
+    let start = Instant::now(&rt)?;
+    run_on(new_parts(rt.alloc(), 2, [0, 1]), |parts| {
+        assert_same(&rt, answer_both(&rt, &start, parts, &shared), true);
+        Ok(())
+    })
 }

@@ -1,13 +1,9 @@
 //! Outer wakers that tests hand in.
-use crate::slots::waker_of;
 use futures_buffered_core::ready_shared::{OuterWaker, SharedReady, SharedWaker};
 use futures_buffered_core::ready_source::SlotWaker;
-use std::alloc::{AllocError, Global};
-use std::sync::Arc;
 use std::sync::atomic::AtomicU64;
 use std::sync::atomic::Ordering::SeqCst;
-use std::test::Fail;
-use std::thread::{self, JoinHandle, Threads, yield_now};
+use std::thread::yield_now;
 
 const TURNS: u64 = 10_000_000;
 
@@ -22,14 +18,13 @@ pub struct Counts {
 }
 
 impl Counts {
-    pub fn new(alloc: Global) -> Result<Arc<Counts>, AllocError> {
-        let counts = Counts {
+    pub fn new() -> Counts {
+        Counts {
             wakes: AtomicU64::new(0),
             drops: AtomicU64::new(0),
             asked: AtomicU64::new(0),
             answered: AtomicU64::new(0),
-        };
-        Ok(Arc::new(alloc, counts)?)
+        }
     }
 
     /// The wakes and the drops.
@@ -42,6 +37,19 @@ impl Counts {
         self.asked.store(1, SeqCst);
         if is_set(&self.answered) {
             self.asked.store(2, SeqCst);
+        }
+    }
+
+    /// Wakes these two once it is asked, and answers.
+    pub fn wake_when_asked<'a>(
+        &self,
+        first: &SharedWaker<Watched<'a>>,
+        second: &SharedWaker<Watched<'a>>,
+    ) {
+        if is_set(&self.asked) {
+            first.wake();
+            second.wake();
+            self.answered.store(1, SeqCst);
         }
     }
 }
@@ -66,12 +74,12 @@ pub enum Asks {
 }
 
 /// Counts its wake and its drop.
-pub struct Watched {
-    counts: Arc<Counts>,
+pub struct Watched<'a> {
+    counts: &'a Counts,
     asks: Asks,
 }
 
-impl Drop for Watched {
+impl<'a> Drop for Watched<'a> {
     fn drop(self) {
         let Self { counts, asks } = self;
         counts.drops.fetch_add(1, SeqCst);
@@ -81,7 +89,7 @@ impl Drop for Watched {
     }
 }
 
-impl OuterWaker for Watched {
+impl<'a> OuterWaker for Watched<'a> {
     fn wake_outer(self) {
         self.counts.wakes.fetch_add(1, SeqCst);
         if self.asks == Asks::AtItsWake {
@@ -91,33 +99,6 @@ impl OuterWaker for Watched {
 }
 
 /// Puts a new one in, with these counts.
-pub fn put_in(
-    source: &mut SharedReady<Watched>,
-    counts: &Arc<Counts>,
-    asks: Asks,
-) -> Result<(), AllocError> {
-    let counts = Arc::try_clone(counts)?;
+pub fn put_in<'a>(source: &mut SharedReady<Watched<'a>>, counts: &'a Counts, asks: Asks) {
     source.set_outer(Watched { counts, asks });
-    Ok(())
-}
-
-fn answer<W: SlotWaker>(counts: &Counts, first: &W, second: &W) {
-    if is_set(&counts.asked) {
-        first.wake();
-        second.wake();
-        counts.answered.store(1, SeqCst);
-    }
-}
-
-/// A thread that wakes these two slots, and then answers, once it is asked.
-pub fn wakes_when_asked<R: Threads>(
-    rt: &R,
-    source: &SharedReady<Watched>,
-    slots: [usize; 2],
-    counts: &Arc<Counts>,
-) -> Result<JoinHandle<()>, Fail> {
-    let first: SharedWaker<Watched> = waker_of(source, slots[0])?;
-    let second = waker_of(source, slots[1])?;
-    let counts = Arc::try_clone(counts)?;
-    Ok(thread::spawn(rt, move || answer(&counts, &first, &second))?)
 }

@@ -1,20 +1,14 @@
-//! Tests of sets, ordered queues, joins and merges that files of calls cannot say. What each call answers and whom it
-//! wakes stands in
-//! the files of `calls/data`. No crate stands on this one.
+//! Tests of sets, ordered queues, joins and merges that files of calls cannot say. What each call returns, and whom it
+//! wakes, is in the files of `calls/data`. No crate uses this one.
 //!
-//! - `core_sources`, `sources`: sets over sources of one caller and of the tests' own, at 70,000 slots; what is dropped
-//!   with a set.
-//! - `first_group`, `items`: items that are not drawn.
-//! - `slots`, `closures`: the slot that a poll names, and futures that contain a closure.
-//! - `each_wake`: each of 70,000 slots, woken alone.
-//! - `threads`, `answered_wakes`, `many_wakes`: sets on other threads, a thread whose wakes are each answered, and ten
-//!   million
-//!   wakes.
-//! - `queues_..`, `joins_..`, `merges_..`: the same of queues, joins and merges; 2,000 kept outputs, and what `extend`
-//!   leaves of its
-//!   iterator.
-//! - `feed`, `ends`: a stream that another thread feeds, and what is run to its end.
-//! - `same`: assertions as calls.
+//! - `core_sources`, `merges_sources`: what is made over a `CoreSource`, at 70,000 slots.
+//! - `sources`, `joins_sources`, `merges_groups`: sources that are counted; what is dropped with a set, a join or a group.
+//! - `items`, `closures`, `which_slot`: items that are not drawn, futures that contain a closure, and the slot that a
+//!   poll names.
+//! - `each_wake`, `answered_wakes`, `many_wakes`: each of 70,000 slots, woken alone; a thread whose wakes are each
+//!   answered; ten million wakes. `wakers` has a waker of each slot.
+//! - `threads`, `joins_threads`, `merges_threads`: what other threads poll, wake and feed, run to its end by `ends`.
+//! - `same`: an assertion as a call.
 #![tactic(auto)]
 
 #[cfg(test)]
@@ -24,31 +18,17 @@ mod closures;
 #[cfg(test)]
 mod core_sources;
 #[cfg(test)]
-mod counted;
-#[cfg(test)]
-mod dropped_source;
-#[cfg(test)]
 mod each_wake;
 #[cfg(test)]
 mod ends;
 #[cfg(test)]
-mod feed;
-#[cfg(test)]
-mod first_group;
-#[cfg(test)]
 mod items;
-#[cfg(test)]
-mod joins_closures;
 #[cfg(test)]
 mod joins_sources;
 #[cfg(test)]
 mod joins_threads;
 #[cfg(test)]
-mod kept;
-#[cfg(test)]
 mod many_wakes;
-#[cfg(test)]
-mod merges_closures;
 #[cfg(test)]
 mod merges_groups;
 #[cfg(test)]
@@ -56,22 +36,12 @@ mod merges_sources;
 #[cfg(test)]
 mod merges_threads;
 #[cfg(test)]
-mod queues_closures;
-#[cfg(test)]
-mod queues_collect;
-#[cfg(test)]
-mod queues_core_sources;
-#[cfg(test)]
-mod queues_items;
-#[cfg(test)]
 mod same;
-#[cfg(test)]
-mod slots;
 #[cfg(test)]
 mod sources;
 #[cfg(test)]
 mod threads;
 #[cfg(test)]
-mod which_slot;
+mod wakers;
 #[cfg(test)]
-mod yields;
+mod which_slot;

@@ -9,10 +9,10 @@ use std::process::Abort;
 use std::test::Fail;
 use test_support::merge_answers::sum_of;
 use test_support::polling::poll_next;
-use test_support::stepped::{Stepped, same};
+use test_support::repeats::{Repeats, same};
 
 // Each gives its number once, from 0 to `count - 1`.
-fn streams(alloc: Global, count: u64) -> Result<Vec<Stepped>, AllocError> {
+fn streams(alloc: Global, count: u64) -> Result<Vec<Repeats>, AllocError> {
     let mut streams = Vec::new(alloc);
     for value in 0..count {
         streams.push(same(value, 1))?;
@@ -21,8 +21,8 @@ fn streams(alloc: Global, count: u64) -> Result<Vec<Stepped>, AllocError> {
 }
 
 // Made by the short name, which is the same type.
-fn bounded(alloc: Global, count: u64) -> Result<MergeBounded<Stepped, CoreSource>, Fail> {
-    let merge: Merge<Stepped, CoreSource> = Merge::over(&(), alloc, streams(alloc, count)?)?;
+fn bounded(alloc: Global, count: u64) -> Result<MergeBounded<Repeats, CoreSource>, Fail> {
+    let merge: Merge<Repeats, CoreSource> = Merge::over(&(), alloc, streams(alloc, count)?)?;
     Ok(merge)
 }
 
@@ -36,7 +36,7 @@ fn a_merge_of_70000_streams_over_another_source(rt: HostRuntime) -> Result<(), F
 }
 
 // Adds the stream by the call that hands nothing back. Whether there was room.
-fn push(merge: &mut MergeBounded<Stepped, CoreSource>, stream: Stepped) -> bool {
+fn push(merge: &mut MergeBounded<Repeats, CoreSource>, stream: Repeats) -> bool {
     if merge.is_full() {
         return false;
     }
@@ -44,7 +44,7 @@ fn push(merge: &mut MergeBounded<Stepped, CoreSource>, stream: Stepped) -> bool 
     true
 }
 
-fn try_to_fill<R: Abort>(rt: &R, task: &MockTask, merge: &mut MergeBounded<Stepped, CoreSource>) {
+fn try_to_fill<R: Abort>(rt: &R, task: &MockTask, merge: &mut MergeBounded<Repeats, CoreSource>) {
     assert_same(rt, merge.try_push(same(5, 1)), Err(same(5, 1)));
     assert_same(rt, push(merge, same(5, 1)), false);
     assert_same(rt, sum_of(task, merge, 100), (1, 2, Poll::Ready(None)));
@@ -64,7 +64,7 @@ fn a_full_merge_hands_the_stream_back(rt: HostRuntime) -> Result<(), Fail> {
 }
 
 // Whether each was taken.
-fn push_all(merge: &mut MergeUnbounded<Stepped, CoreSource>, count: u64) -> bool {
+fn push_all(merge: &mut MergeUnbounded<Repeats, CoreSource>, count: u64) -> bool {
     for value in 0..count {
         if merge.push(same(value, 2)).is_err() {
             return false;

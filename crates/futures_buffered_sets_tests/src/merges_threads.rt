@@ -1,72 +1,69 @@
 // Merges that run while another thread feeds their streams.
 use crate::ends::ended_beside;
-use crate::feed::{Fed, Feeder, feed};
 use crate::same::assert_same;
 use futures::StreamExt;
-use futures_buffered_core::ready_shared::SharedReady;
-use futures_buffered_sets::{MergeBounded, MergeUnbounded};
-use std::alloc::{AllocError, Global};
+use futures::task::Poll;
+use futures_buffered_core::ready_shared::{SharedReady, SharedWaker};
+use futures_buffered_sets::{MergeBounded, MergeUnbounded, SlotFuture, SlotStream};
 use std::sync::Wait;
 use std::test::Fail;
-use test_support::keep::keep;
+use test_support::cells::{Cells, new_cells, send_each};
+use test_support::receiver::Receiver;
 use test_support::sums::count_and_sum;
 
-// The stream at each place is that of the feeder at this place.
+// Gives what its receiver is sent, and then ends.
 #[derive(Drop)]
-struct Feeds<R> {
-    feeders: Vec<Feeder<R>>,
-    streams: Vec<Fed<R>>,
+struct Fed<R> {
+    receiver: Receiver<u64, R>,
+    is_over: bool,
 }
 
-fn add_feed<R: Clone + Drop>(
-    rt: &R,
-    alloc: Global,
-    feeds: &mut Feeds<R>,
-) -> Result<(), AllocError> {
-    let (feeder, stream) = feed(rt, alloc)?;
-    keep(&mut feeds.feeders, feeder)?;
-    keep(&mut feeds.streams, stream)
-}
+impl<R: Wait + Drop> SlotStream<SharedWaker> for Fed<R> {
+    type Item = u64;
 
-fn four_feeds<R: Clone + Drop>(rt: &R, alloc: Global) -> Result<Feeds<R>, AllocError> {
-    let mut feeds = Feeds {
-        feeders: Vec::new(alloc),
-        streams: Vec::new(alloc),
-    };
-    for _ in 0..4 {
-        add_feed(rt, alloc, &mut feeds)?;
+    fn poll_next(&mut self, waker: &SharedWaker) -> Poll<Option<u64>> {
+        if self.is_over {
+            return Poll::Ready(None);
+        }
+        let Poll::Ready(value) = self.receiver.poll(waker) else {
+            return Poll::Pending;
+        };
+        self.is_over = true;
+        Poll::Ready(Some(value))
     }
-    Ok(feeds)
 }
 
-// Each stream is given one value and closed.
-fn give_all<R: Wait + Drop>(feeders: &Vec<Feeder<R>>) {
-    for (value, feeder) in [1, 2, 4, 8].iter().zip(feeders) {
-        feeder.give(*value);
-        feeder.close();
+fn stream_of<R>(receiver: Receiver<u64, R>) -> Fed<R> {
+    Fed {
+        receiver,
+        is_over: false,
     }
 }
 
 #[test]
 fn a_bounded_merge_while_a_thread_wakes(rt: HostRuntime) -> Result<(), Fail> {
-    let Feeds { feeders, streams } = four_feeds(&rt, rt.alloc())?;
-    let merge: MergeBounded<Fed<HostRuntime>, SharedReady> = MergeBounded::from_iter(
-        rt.alloc(),
-        streams,
-    )?;
-    let items = ended_beside(&rt, merge.collect(rt.alloc()), move || give_all(&feeders))??;
+    let Cells { senders, receivers } = new_cells(&rt, rt.alloc(), 4)?;
+    let streams = receivers.into_iter().map(|receiver| stream_of(receiver));
+    let merge = MergeBounded::<_, SharedReady>::from_iter(rt.alloc(), streams)?;
+    let items = ended_beside(
+        &rt,
+        merge.collect(rt.alloc()),
+        move || send_each(&senders, [1, 2, 4, 8]),
+    )??;
     assert_same(&rt, count_and_sum(items.as_slice()), (4, 15));
     Ok(())
 }
 
 #[test]
 fn a_growing_merge_while_a_thread_wakes(rt: HostRuntime) -> Result<(), Fail> {
-    let Feeds { feeders, streams } = four_feeds(&rt, rt.alloc())?;
-    let merge: MergeUnbounded<Fed<HostRuntime>, SharedReady> = MergeUnbounded::from_iter(
-        rt.alloc(),
-        streams,
-    )?;
-    let items = ended_beside(&rt, merge.collect(rt.alloc()), move || give_all(&feeders))??;
+    let Cells { senders, receivers } = new_cells(&rt, rt.alloc(), 4)?;
+    let streams = receivers.into_iter().map(|receiver| stream_of(receiver));
+    let merge = MergeUnbounded::<_, SharedReady>::from_iter(rt.alloc(), streams)?;
+    let items = ended_beside(
+        &rt,
+        merge.collect(rt.alloc()),
+        move || send_each(&senders, [1, 2, 4, 8]),
+    )??;
     assert_same(&rt, count_and_sum(items.as_slice()), (4, 15));
     Ok(())
 }

@@ -1,4 +1,5 @@
 //! What tests begin with.
+use crate::counted_source::SourceLog;
 use crate::counter::{Counter, new_counter};
 use futures::test::MockTask;
 use futures_buffered_core::ready_shared::SharedReady;
@@ -14,6 +15,15 @@ where
 {
     let task = MockTask::new(rt)?;
     Ok((task, new_counter(rt.alloc())?))
+}
+
+/// A task, and what a test sees of its sources.
+pub fn task_and_log<R>(rt: &R) -> Result<(MockTask, SourceLog), Fail>
+where
+    R: RandomSource + AllocGlobal,
+{
+    let task = MockTask::new(rt)?;
+    Ok((task, SourceLog::new(rt.alloc())?))
 }
 
 /// A task, and an empty set of so many slots.

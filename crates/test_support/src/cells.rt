@@ -36,17 +36,6 @@ pub fn new_cells<T: Drop, R: Clone + Drop>(
     Ok(cells)
 }
 
-/// Whether there is such a sender. It sends the value.
-pub fn sent<T: Drop, R: Wait + Drop>(senders: &Vec<Sender<T, R>>, place: usize, value: T) -> bool {
-    match senders.get(place) {
-        Some(sender) => {
-            sender.send(value);
-            true
-        }
-        None => false,
-    }
-}
-
 /// Each sender in turn sends its value.
 pub fn send_each<T: Copy + Drop, R: Wait + Drop>(senders: &Vec<Sender<T, R>>, values: [T; 4]) {
     for (value, sender) in values.iter().zip(senders) {

@@ -12,11 +12,23 @@ use futures_buffered_unordered::{FuturesUnordered, FuturesUnorderedBounded};
 pub trait Holds: Stream<Item = u64> + Drop {
     /// Adds one, at the back of a queue: whether it is taken.
     fn add(&mut self, future: Timed) -> bool;
+
+    /// How many there are.
+    fn count(&self) -> usize;
+}
+
+/// What also takes them at its front.
+pub trait HoldsInOrder: Holds {
+    fn add_front(&mut self, future: Timed) -> bool;
 }
 
 impl<S: ReadySource> Holds for FuturesUnorderedBounded<Timed, S> {
     fn add(&mut self, future: Timed) -> bool {
         self.try_push(future).is_ok()
+    }
+
+    fn count(&self) -> usize {
+        self.len()
     }
 }
 
@@ -24,17 +36,41 @@ impl<S: NewSource> Holds for FuturesUnordered<Timed, S> {
     fn add(&mut self, future: Timed) -> bool {
         self.push(future).is_ok()
     }
+
+    fn count(&self) -> usize {
+        self.len()
+    }
 }
 
 impl<S: ReadySource> Holds for FuturesOrderedBounded<Timed, S> {
     fn add(&mut self, future: Timed) -> bool {
         self.try_push_back(future).is_ok()
     }
+
+    fn count(&self) -> usize {
+        self.len()
+    }
 }
 
 impl<S: NewSource> Holds for FuturesOrdered<Timed, S> {
     fn add(&mut self, future: Timed) -> bool {
         self.push_back(future).is_ok()
+    }
+
+    fn count(&self) -> usize {
+        self.len()
+    }
+}
+
+impl<S: ReadySource> HoldsInOrder for FuturesOrderedBounded<Timed, S> {
+    fn add_front(&mut self, future: Timed) -> bool {
+        self.try_push_front(future).is_ok()
+    }
+}
+
+impl<S: NewSource> HoldsInOrder for FuturesOrdered<Timed, S> {
+    fn add_front(&mut self, future: Timed) -> bool {
+        self.push_front(future).is_ok()
     }
 }
 

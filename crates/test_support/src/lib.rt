@@ -15,7 +15,7 @@ pub mod keep;
 pub mod merge_answers;
 pub mod polling;
 pub mod receiver;
+pub mod repeats;
 pub mod run_on;
-pub mod stepped;
 pub mod sums;
 pub mod timed;

@@ -1,25 +1,8 @@
-//! What the next polls of a merge answer, where it may always be polled.
+//! What the next polls of a merge answer.
 use crate::polling::poll_next;
 use futures::Stream;
 use futures::task::Poll;
 use futures::test::MockTask;
-use std::alloc::{AllocError, Global};
-
-/// The answers of so many polls, in order.
-pub fn answers<M: Stream<Item: Drop>>(
-    task: &MockTask,
-    merge: &mut M,
-    polls: usize,
-    alloc: Global,
-) -> Result<Vec<Poll<Option<M::Item>>>, AllocError>
-    requires { (stream : M) → M.can_poll stream }
-{
-    let mut answers = Vec::new(alloc);
-    for _ in 0..polls {
-        answers.push(poll_next(task, merge))?;
-    }
-    Ok(answers)
-}
 
 /// The sum and the number of the items up to the first answer that is none.
 pub fn sum_of<M: Stream<Item = u64>>(

@@ -3,11 +3,6 @@ use futures::task::Poll;
 use futures::test::MockTask;
 use futures::{Future, Stream};
 
-/// Polls nothing: the task is not woken right after it.
-pub fn poll_nothing(task: &MockTask) {
-    task.enter(|_cx| ());
-}
-
 /// One poll of a set, a queue or a merge.
 pub fn poll_next<St: Stream>(task: &MockTask, stream: &mut St) -> Poll<Option<St::Item>>
     requires { (stream : St) → St.can_poll stream }
