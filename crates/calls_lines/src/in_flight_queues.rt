@@ -1,4 +1,6 @@
 //! Queues of the kit's futures.
+ghost use Rattle.std.specs.Prelude.{◌<◌};
+
 use crate::answer::{Answer, Reply, Told, ask, of_full, of_growth, of_next};
 use crate::session::{Session, first_of};
 use crate::subject::{Call, Subject};
