@@ -6,7 +6,7 @@ pub mod TryBufferLemmas
 pub mod TryBufferAccountLemmas
 pub mod BufferUnorderedAccountLemmas
 pub mod BufferedOrderedAccountLemmas
+pub mod TurnsLemmas
 pub mod ForEachConcurrentLemmas
-pub mod DrainLemmas
 pub mod InFlightLemmas
 pub mod StreamLemmas

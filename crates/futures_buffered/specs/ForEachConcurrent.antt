@@ -1,24 +1,22 @@
 -- One poll of a `ForEachConcurrent`: some turns. Each turn takes at most one item, calls the closure with it, pushes
 -- the future that the closure makes, and polls the set once. A clause gives stream, closure, futures and source by the
 -- ghost members of their types: `St.Stream F.FnMut Fut.SlotFuture S.ReadySource`.
-use Rattle.std.specs.Prelude.{◌≡◌, ℕ, ◌+◌, ◌<◌, ◌≤◌, List, [], ◌∷◌, ◌++◌, length, Bool, true, false, Option, Some, None}
-use Rattle.std.specs.Prelude.{IfSome, IsSomeAnd, ◌⊎◌, refl, is_some}
-use Rattle.std.specs.List.{FoldsTo, AllByRecursion}
+use Rattle.std.specs.Prelude.{◌≡◌, ◌<◌, ◌≤◌, List, Option, Some, None, IfSome, IsSomeAnd, ◌⊎◌, refl}
 use Rattle.std.specs.Fn.{Mut}
 use Rattle.std.specs.Coded.{Coded, code_by, coded×}
-use Rattle.futures.specs.Task.{Covers, Keeps}
+use Rattle.futures.specs.Task.{Keeps}
 use Rattle.futures.specs.declared.task.context.Context.{Context}
 use Rattle.futures.specs.declared.task.Poll.{Poll}
 use Rattle.futures.specs.declared.task.Poll.TheVariants.{Ready, Pending}
-use Rattle.futures.specs.Poll.{IfReady, OnPending}
 use Rattle.futures.specs.Runs.{AtEachItem, Calls}
 pub use Rattle.futures_buffered_core.specs.declared.ready_source.ReadySource.{Ghosts as ReadySourceOf}
 use Rattle.futures_buffered_unordered.specs.Held.{AllHeld}
-use Rattle.futures_buffered_unordered.specs.FuturesUnorderedBounded.{Bounded, IsWoken, Pushes, held_in, slots_in}
+use Rattle.futures_buffered_unordered.specs.FuturesUnorderedBounded.{Bounded, Pushes, held_in, slots_in}
 use Rattle.futures_buffered_unordered.specs.PollsBounded.{PollsBounded, itself}
 pub use Rattle.futures_buffered_unordered.specs.declared.slot_future.SlotFuture.{Ghosts as SlotFutureOf}
 use Rattle.futures_buffered.specs.Buffer.{Buffering, StreamOf, buffer_code, Ahead, AsksStream, DrawsNone, DrawsTask}
 use Rattle.futures_buffered.specs.Buffer.{HasNoTurn, IsNewBuffer, PollsStream}
+use Rattle.futures_buffered.specs.Turns.{PollsInTurns, TurnsOf}
 
 -- the stream and the set, and the closure
 pub record ForEach (St Fn Q : Type 0) : Type 0 where
@@ -39,24 +37,18 @@ for_each_code {St} {Fn} {Q} stream_code closure_code queue_code =
 abbrev pub IsNewForEach : {St Fn Q : Type 0} → (Q → Type 0) → St → Fn → ForEach St Fn Q → Type 0
 IsNewForEach is_new stream closure b = IsNewBuffer is_new stream b.buffer × (b.closure ≡ closure)
 
--- whether another turn follows, if one is left: an item was taken, or an output came
-abbrev pub moves_on : {X A : Type 0} → Option X → Poll (Option A) → Bool
-moves_on (Some x) answer = true
-moves_on None (Ready output) = is_some output
-moves_on None Pending = false
+-- what a turn returns, by the item that it took, what its poll of the set returned, and what is left of the stream:
+-- `None`, so that another turn may follow, if it took an item or an output came
+abbrev pub turn_answer : {X A St : Type 0} → Option X → Poll (Option A) → Option St → Option (Poll (Unit {0}))
+turn_answer (Some _) answer stream = None
+turn_answer None (Ready (Some _)) stream = None
+turn_answer None (Ready None) None = Some (Ready tt)
+turn_answer None (Ready None) (Some _) = Some Pending
+turn_answer None Pending stream = Some Pending
 
--- the for-each may end if its stream may end
-abbrev pub ForEachGives : {St X Fn Q : Type 0} → StreamOf St X → ForEach St Fn Q → Unit {0} → Type 0
-ForEachGives {X = X} stream b _ = (items : List X) × Ahead stream.yields b.buffer.stream items None
-
--- the places at which a pending call waits: the set's, if a future is held; the stream's, if it has not ended and a
--- slot is free
-abbrev pub ForEachWaitsAt : {St X Fn F W S : Type 0}
-    → StreamOf St X → ReadySourceOf S W → ForEach St Fn (Bounded F S) → ℕ → Type 0
-ForEachWaitsAt stream source b place =
-    ((0 < held_in b.buffer.queue) × source.needs b.buffer.queue.source place)
-    ⊎ ((held_in b.buffer.queue < slots_in b.buffer.queue)
-    × IsSomeAnd b.buffer.stream (λ s. stream.needs s place))
+-- the stream may end
+abbrev pub MayEnd : {St X Fn Q : Type 0} → StreamOf St X → ForEach St Fn Q → Type 0
+MayEnd {X = X} stream b = (items : List X) × Ahead stream.yields b.buffer.stream items None
 
 module _
     {St X Fn F W : Type 0}
@@ -81,7 +73,7 @@ module _
       -- the for-each may be polled again
       pub again : CanForEach new
       -- the for-each may end only if it might have ended before
-      pub same : ForEachGives stream new tt → ForEachGives stream old tt
+      pub same : MayEnd stream new → MayEnd stream old
       -- the number of slots and the limit do not change
       pub capacity : slots_in new.buffer.queue ≡ slots_in old.buffer.queue
       pub limit : new.buffer.queue.limit ≡ old.buffer.queue.limit
@@ -115,66 +107,57 @@ module _
         × Calls closure old.closure x made new.closure
         × Pushes source.marks old.buffer.queue made new.buffer.queue
 
-    -- One turn of the for-each and of its task: the item that it took, if any, and what its poll of the set returned.
+    -- One turn, which takes a for-each from `old` to `new` and the task from `cx` to `left`.
     pub record TurnGives
-        (old : ForEach St Fn (Bounded F S) × Context)
-        (turn : Option X × Poll (Option (Unit {0})))
-        (new : ForEach St Fn (Bounded F S) × Context)
+        (old : ForEach St Fn (Bounded F S))
+        (result : Option (Poll (Unit {0})))
+        (new : ForEach St Fn (Bounded F S))
+        (cx left : Context)
         : Type 0 where
+      -- the item that the turn took, if any
+      pub drew : Option X
       pub drawn : ForEach St Fn (Bounded F S)
-      pub draws : DrawsOnce old.0 turn.0 drawn
+      pub draws : DrawsOnce old drew drawn
       -- the task after the first part of the turn, which keeps each earlier registration and wake, and is unchanged if
       -- the stream was not polled
       pub task_then : Context
-      pub draw_keeps : Keeps old.1 task_then
-      pub not_polled : HasNoTurn (PollsStream stream.yields) held_in (slots_in old.0.buffer.queue) old.0.buffer
-          → task_then ≡ old.1
+      pub draw_keeps : Keeps cx task_then
+      pub not_polled : HasNoTurn (PollsStream stream.yields) held_in (slots_in old.buffer.queue) old.buffer
+          → task_then ≡ cx
       -- the poll of the set takes the task from `task_then`
-      pub polls_set : PollsBounded (itself future) source drawn.buffer.queue turn.1 new.0.buffer.queue task_then new.1
-      pub same_stream : new.0.buffer.stream ≡ drawn.buffer.stream
-      pub same_closure : new.0.closure ≡ drawn.closure
+      pub set_answer : Poll (Option (Unit {0}))
+      pub polls_set : PollsBounded (itself future) source drawn.buffer.queue set_answer new.buffer.queue task_then left
+      pub same_stream : new.buffer.stream ≡ drawn.buffer.stream
+      pub same_closure : new.closure ≡ drawn.closure
+      -- what the turn returns
+      pub gives : result ≡ turn_answer drew set_answer new.buffer.stream
+      -- the number of slots does not change
+      pub capacity : slots_in new.buffer.queue ≡ slots_in old.buffer.queue
 
-    -- One poll, which takes a for-each from `old` to `new` and the task from `cx` to `left`: some turns, each of which
-    -- takes an item or gives an output, and a last turn.
+    -- What a for-each says of its polls. A pending one waits where its set waits if a future is held, and where its
+    -- stream waits if that has not ended and a slot is free. It may end if its stream may end. It is over if its stream
+    -- has ended and no future is held. Its limit is the limit of its set.
+    abbrev pub for_each_of : TurnsOf (ForEach St Fn (Bounded F S)) (Unit {0})
+    for_each_of = record {
+      can_poll = CanForEach stream closure future;
+      needs = λ b place. ((0 < held_in b.buffer.queue) × source.needs b.buffer.queue.source place)
+          ⊎ ((held_in b.buffer.queue < slots_in b.buffer.queue)
+          × IsSomeAnd b.buffer.stream (λ s. stream.needs s place));
+      gives = λ b _. MayEnd stream b;
+      is_over = λ b. (b.buffer.stream ≡ None) × (held_in b.buffer.queue ≡ 0);
+      limit = λ b. b.buffer.queue.limit;
+      turns = TurnGives;
+    }
+
+    -- One poll, which takes a for-each from `old` to `new` and the task from `cx` to `left`.
     pub record PollsForEach
         (old : ForEach St Fn (Bounded F S))
         (answer : Poll (Unit {0}))
         (new : ForEach St Fn (Bounded F S))
         (cx left : Context)
         : Type 0 where
-      -- the turns before the last; of the last turn the item that it took, if any, and what its poll of the set
-      -- returned; and the task after that turn
-      pub turns : List (Option X × Poll (Option (Unit {0})))
-      pub drew : Option X
-      pub set_answer : Poll (Option (Unit {0}))
-      pub after : Context
-      pub row : FoldsTo TurnGives (old, cx) (turns ++ (drew, set_answer) ∷ []) (new, after)
-      -- Each turn before the last took an item or gave an output. With the last, there are at most as many turns as the
-      -- set's limit. The limit also bounds how many ready slots each poll of the set dequeues.
-      pub went_on : AllByRecursion (λ turn. moves_on turn.0 turn.1 ≡ true) turns
-      pub at_most : length turns < old.buffer.queue.limit
-      -- The poll is ready only if the set held nothing at last and the stream has ended. It is pending only if that is
-      -- not so, or if the last turn moved on.
-      pub ended : IfReady answer (λ _. (set_answer ≡ Ready None) × (new.buffer.stream ≡ None)
-          × (held_in new.buffer.queue ≡ 0))
-      pub not_yet : OnPending answer (moves_on drew set_answer ≡ false
-          → set_answer ≡ Ready None → new.buffer.stream ≡ None → ⊥)
-      -- if the last turn did not move on, the task is as that turn left it, which may have woken it; otherwise the
-      -- limit is reached, and the task is woken
-      pub stays : moves_on drew set_answer ≡ false → left ≡ after
-      pub at_limit : moves_on drew set_answer ≡ true → (answer ≡ Pending)
-          × (length turns + 1 ≡ old.buffer.queue.limit) × IsWoken left
-      -- the number of slots and the limit do not change, and no more futures are held than there are slots
+      -- the turns, and what they leave
+      pub called : PollsInTurns for_each_of old answer new cx left
+      -- the number of slots does not change, and no more futures are held than there are slots
       pub capacity : slots_in new.buffer.queue ≡ slots_in old.buffer.queue
-      pub limit : new.buffer.queue.limit ≡ old.buffer.queue.limit
       pub bound : held_in new.buffer.queue ≤ slots_in new.buffer.queue
-      -- The task of a pending for-each is registered, or is woken: for the set if a future is held, and for the stream
-      -- if it has not ended and a slot is free.
-      pub registered : OnPending answer (Covers left (ForEachWaitsAt stream source new))
-      -- the task keeps each earlier registration and wake
-      pub kept : Keeps cx left
-      -- a pending for-each may be polled again
-      pub again : OnPending answer (CanForEach stream closure future new)
-      -- the poll is ready only if the for-each might end before it, and a pending poll adds nothing to when it may end
-      pub value : IfReady answer (ForEachGives stream old)
-      pub same : OnPending answer (ForEachGives stream new tt → ForEachGives stream old tt)

@@ -1,14 +1,12 @@
 //! A buffer that is polled to its end, or to the first output that ends the drain.
-ghost use Rattle.std.specs.Prelude.{◌≡◌, ◌<◌, ◌≤◌, IfSome, IfNone, option_copied};
-ghost use Rattle.futures.specs.Task.{Keeps};
+ghost use Rattle.std.specs.Prelude.{◌≡◌, ◌<◌, ◌≤◌, option_copied};
 ghost use Rattle.futures_buffered_core.specs.Made.{MakesSlots};
-ghost use Rattle.futures_buffered.specs.Buffer.{PollsBuffer, buffer_of};
-ghost use Rattle.futures_buffered.specs.Drain.{CanDrain, DrainGives, DrainTurn, DrainWaitsAt, GoingLeavesDrain};
-ghost use Rattle.futures_buffered.specs.Drain.{IsDrained, IsNewDrain, LeavesDrain, PollsDrain};
+ghost use Rattle.futures_buffered.specs.Drain.{IsDrained, IsNewDrain, PollsDrain, drain_of};
 
 use crate::buffer::Buffer;
 use crate::drain_output::DrainOutput;
 use crate::future_queue::{FutureQueue, NewQueue};
+use crate::turns::TakeTurns;
 use futures::task::{Context, Poll};
 use futures::{Future, Stream};
 use futures_buffered_core::ready_core::NewFault;
@@ -95,23 +93,21 @@ impl<St: Drop, Q: NewQueue> Drain<St, Q> {
     }
 }
 
-impl<St, Q> Drain<St, Q>
+impl<St, Q> TakeTurns for Drain<St, Q>
 where
     St: Stream,
     Q: FutureQueue<St::Item, Output: DrainOutput>,
 {
-    // Polls the buffer once. If the call ends with this turn, returns what the call returns.
-    fn turn(&mut self, cx: &mut Context<'_>) -> Option<Poll<Q::Output>>
-        requires { CanDrain (buffer_of St.Stream Q.FutureQueue) self.old }
-        ensures turn { DrainTurn Q.Output.DrainOutput (PollsBuffer St.Stream Q.FutureQueue)
-            self.old.buffer result self.new.buffer cx.old cx.new }
-        ensures goes { IfNone result (GoingLeavesDrain
-            Q.Output.DrainOutput (buffer_of St.Stream Q.FutureQueue) self.old self.new) }
-        ensures ends { IfSome result (λ answer. LeavesDrain
-            Q.Output.DrainOutput (buffer_of St.Stream Q.FutureQueue)
-            self.old answer self.new cx.old cx.new) }
-        ensures kept { Keeps cx.old cx.new }
-    {
+    type Answer = Q::Output;
+
+    ghost taken = { drain_of St.Stream Q.FutureQueue Q.Output.DrainOutput };
+
+    fn turn_limit(&self) -> usize {
+        self.limit
+    }
+
+    // Polls the buffer once.
+    fn turn(&mut self, cx: &mut Context<'_>) -> Option<Poll<Q::Output>> {
         let Some(buffer) = &mut self.buffer else {
             return Some(Poll::Ready(Q::Output::done()));
         };
@@ -139,11 +135,11 @@ where
 {
     type Output = Q::Output;
 
-    ghost can_poll = { CanDrain (buffer_of St.Stream Q.FutureQueue) };
+    ghost can_poll = { (drain_of St.Stream Q.FutureQueue Q.Output.DrainOutput).can_poll };
 
-    ghost needs = { DrainWaitsAt (buffer_of St.Stream Q.FutureQueue) };
+    ghost needs = { (drain_of St.Stream Q.FutureQueue Q.Output.DrainOutput).needs };
 
-    ghost gives = { DrainGives Q.Output.DrainOutput (buffer_of St.Stream Q.FutureQueue) };
+    ghost gives = { (drain_of St.Stream Q.FutureQueue Q.Output.DrainOutput).gives };
 
     /// Takes at most as many turns as the limit, each of which polls the buffer once. A further turn follows an output
     /// that does not end the drain.
@@ -156,16 +152,11 @@ where
     /// the source or of the set of `futures`, may. Takes time in proportion to the turns, the items taken and the ready
     /// slots dequeued, apart from the polls. At the limit, wakes the task at once.
     fn poll(&mut self, cx: &mut Context<'_>) -> Poll<Q::Output>
-        requires { CanDrain (buffer_of St.Stream Q.FutureQueue) self.old }
+        requires { (drain_of St.Stream Q.FutureQueue Q.Output.DrainOutput).can_poll self.old }
         ensures { PollsDrain St.Stream Q.FutureQueue Q.Output.DrainOutput
             self.old result self.new cx.old cx.new }
     {
-        'turns: for _turn in 0..self.limit {
-            if let Some(answer) = self.turn(cx) {
-                return answer;
-            }
-        }
-        cx.yield_now()
+        self.poll_in_turns(cx)
     }
 }
 

@@ -4,9 +4,9 @@ ghost use Rattle.futures_buffered_core.specs.Made.{MakesSlots};
 ghost use Rattle.futures_buffered_core.specs.ReadyShared.{IsNewShared};
 ghost use Rattle.futures_buffered_unordered.specs.FuturesUnorderedBounded.{held_in, slots_in, IsNewSet};
 ghost use Rattle.futures_buffered.specs.ForEachConcurrent.{IsNewForEach, CanForEach, DrawsOnce};
-ghost use Rattle.futures_buffered.specs.ForEachConcurrent.{DrawLeaves, DrawLeavesTask};
-ghost use Rattle.futures_buffered.specs.ForEachConcurrent.{ForEachGives, ForEachWaitsAt, PollsForEach};
+ghost use Rattle.futures_buffered.specs.ForEachConcurrent.{DrawLeaves, DrawLeavesTask, PollsForEach, for_each_of};
 
+use crate::turns::TakeTurns;
 use futures::task::{Context, Poll};
 use futures::{Future, Stream};
 use futures_buffered_core::ready_core::NewFault;
@@ -147,14 +147,6 @@ impl<
     Fut: SlotFuture<S::Waker, Output = ()>,
     S: ReadySource,
 > ForEachConcurrent<St, F, Fut, S> {
-    // Returns how many turns one poll takes at most.
-    fn turn_limit(&self) -> usize
-        ensures value { result ≡ self.now.buffer.queue.limit }
-        ensures some { 1 ≤ result }
-    {
-        self.queue.limit()
-    }
-
     // Takes at most one item, calls the closure with it, and pushes the future that the closure makes. Returns whether
     // an item was taken.
     fn draw(&mut self, cx: &mut Context<'_>) -> bool
@@ -192,14 +184,44 @@ impl<
     F: FnMut(St::Item) -> Fut + Drop,
     Fut: SlotFuture<S::Waker, Output = ()>,
     S: ReadySource,
+> TakeTurns for ForEachConcurrent<St, F, Fut, S> {
+    type Answer = ();
+
+    ghost taken = { for_each_of St.Stream F.FnMut Fut.SlotFuture S.ReadySource };
+
+    fn turn_limit(&self) -> usize {
+        self.queue.limit()
+    }
+
+    // Takes at most one item, and polls the set once.
+    fn turn(&mut self, cx: &mut Context<'_>) -> Option<Poll<()>> {
+        let drew = self.draw(cx);
+        match self.queue.poll_next(cx) {
+            Poll::Ready(Some(())) => {}
+            Poll::Ready(None) if self.stream.is_none() => return Some(Poll::Ready(())),
+            Poll::Ready(None) | Poll::Pending => {
+                if !drew {
+                    return Some(Poll::Pending);
+                }
+            }
+        }
+        None
+    }
+}
+
+impl<
+    St: Stream,
+    F: FnMut(St::Item) -> Fut + Drop,
+    Fut: SlotFuture<S::Waker, Output = ()>,
+    S: ReadySource,
 > Future for ForEachConcurrent<St, F, Fut, S> {
     type Output = ();
 
     ghost can_poll = { CanForEach St.Stream F.FnMut Fut.SlotFuture };
 
-    ghost needs = { ForEachWaitsAt St.Stream S.ReadySource };
+    ghost needs = { (for_each_of St.Stream F.FnMut Fut.SlotFuture S.ReadySource).needs };
 
-    ghost gives = { ForEachGives St.Stream };
+    ghost gives = { (for_each_of St.Stream F.FnMut Fut.SlotFuture S.ReadySource).gives };
 
     /// Takes at most as many turns as the limit. If there is room, a turn takes at most one item, calls the closure
     /// with it, and holds the future that the closure makes. Then the turn polls the set once. A further turn follows
@@ -215,19 +237,7 @@ impl<
         ensures { PollsForEach St.Stream F.FnMut Fut.SlotFuture S.ReadySource
             self.old result self.new cx.old cx.new }
     {
-        'turns: for _turn in 0..self.turn_limit() {
-            let drew = self.draw(cx);
-            match self.queue.poll_next(cx) {
-                Poll::Ready(Some(())) => {}
-                Poll::Ready(None) if self.stream.is_none() => return Poll::Ready(()),
-                Poll::Ready(None) | Poll::Pending => {
-                    if !drew {
-                        return Poll::Pending;
-                    }
-                }
-            }
-        }
-        cx.yield_now()
+        self.poll_in_turns(cx)
     }
 }
 
@@ -238,9 +248,7 @@ impl<
     Fut: SlotFuture<S::Waker, Output = ()>,
     S: ReadySource,
 > FusedFuture for ForEachConcurrent<St, F, Fut, S> {
-    ghost use Rattle.std.specs.Prelude.{◌≡◌, None};
-
-    ghost is_over = { λ b. (b.buffer.stream ≡ None) × (held_in b.buffer.queue ≡ 0) };
+    ghost is_over = { (for_each_of St.Stream F.FnMut Fut.SlotFuture S.ReadySource).is_over };
 
     fn is_terminated(&self) -> bool {
         self.stream.is_none() && self.queue.is_empty()

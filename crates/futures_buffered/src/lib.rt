@@ -40,6 +40,7 @@ pub mod try_buffer_unordered;
 pub mod try_buffered;
 pub mod try_buffered_ordered;
 pub mod try_for_each_concurrent;
+mod turns;
 
 // What a user needs.
 pub use buffer_unordered::BufferUnordered;
