@@ -13,7 +13,7 @@ use Rattle.futures_buffered_unordered.specs.MergeBounded.{ComesFromStreams}
 use Rattle.futures_buffered_unordered.specs.MergeUnbounded.{ItemsComeFromGroups, PollsMergeUnbounded}
 use Rattle.futures_buffered_unordered.specs.Merging.{PollsMergeBounded, SlotStreamOf}
 use Rattle.futures_buffered_unordered.proofs.MergeBoundedLemmas.{value_of, rest_of, same_of}
-use Rattle.futures_buffered_unordered.proofs.MergeUnboundedLemmas.{group_value, group_rest, group_same, groups_give}
+use Rattle.futures_buffered_unordered.proofs.MergeUnboundedLemmas.{group_value, group_rest, group_same}
 
 module _ {St W A S : Type 0} (stream : SlotStreamOf St W A) (source : ReadySourceOf S W) where
   pub bounded_answers : (old new : Bounded St S) (answer : Poll (Option A)) (cx left : Context) → PollsMergeBounded stream source old answer new cx left
@@ -32,11 +32,10 @@ module _ {St W A S : Type 0} (stream : SlotStreamOf St W A) (source : ReadySourc
   pub growing_answers : (old new : Growing St S) (answer : Poll (Option A)) (cx left : Context) → PollsMergeUnbounded stream source old answer new cx left
       → StreamAnswers (stream_of (λ merge. EachHeld stream.can_poll merge.groups.listed) (λ merge. AnyNeeds source.needs merge.groups.listed) (λ merge. ItemsComeFromGroups stream.polled merge.groups.listed)) old answer new cx left
   growing_answers old new answer cx left it =
-      let gave = groups_give stream.polled source.steps source.marks _ _ it.groups.stopped _ it.groups.gave in
       record {
-        value = group_value stream.polled source.steps source.marks _ _ it.groups.stopped _ gave;
-        rest = group_rest stream.polled source.steps source.marks _ _ it.groups.stopped _ gave;
-        same = group_same stream.polled source.steps source.marks _ _ it.groups.stopped _ gave;
+        value = group_value stream.polled source.steps source.marks _ _ _ answer it.groups.gave;
+        rest = group_rest stream.polled source.steps source.marks _ _ _ answer it.groups.gave;
+        same = group_same stream.polled source.steps source.marks _ _ _ answer it.groups.gave;
         goes = after_item answer it.groups.pollable;
         again = while_pending answer it.groups.pollable;
         registered = it.registered;

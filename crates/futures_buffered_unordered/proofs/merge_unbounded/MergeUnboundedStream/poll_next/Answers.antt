@@ -1,12 +1,11 @@
-use Rattle.futures_buffered_unordered.proofs.MergeUnboundedLemmas.{covered_any, ends_of, groups_give}
+use Rattle.futures_buffered_unordered.proofs.MergeUnboundedLemmas.{covered_any, ends_of}
 use Rattle.futures_buffered_unordered.proofs.merge_unbounded.MergeUnboundedStream.poll_next.Goals as goal
 
 pub returns : goal.returns
 returns g c =
     let source = g.S.ReadySource in
     let poll = c.poll_groups.ensures in
-    let gave = groups_give g.St.SlotStream.polled source.steps source.marks _ _ _ _ poll.gave in
-    let ends = ends_of g.St.SlotStream.polled source.steps source.marks _ _ _ _ gave in
+    let ends = ends_of g.St.SlotStream.polled source.steps source.marks _ _ _ _ poll.gave in
     record {
       groups = record {
         stopped = poll.stopped;
