@@ -12,7 +12,7 @@ use Rattle.futures_buffered_unordered.specs.FuturesUnorderedBounded.{Bounded, he
 use Rattle.futures_buffered_unordered.specs.Groups.{Groups, Turn, AsksLast, GroupsGive, ended, is_end, staying, NoOutput}
 use Rattle.futures_buffered_unordered.specs.Groups.{AnyOf, outputs_in}
 use Rattle.futures_buffered_unordered.specs.FuturesUnordered.{held_in_all}
-use Rattle.futures_buffered_unordered.proofs.GroupsLemmas.{TakesTurn, NotAsked, GaveNoOutput, each-append, each-front}
+use Rattle.futures_buffered_unordered.proofs.GroupsLemmas.{TakesTurn, NotAsked, GaveNoOutput, each-append, each-back, each-front, parts_of}
 
 -- an element of which P holds is one of a list
 any_between : {X : Type 0} (P : X → Type 0) (xs : List X) (x : X) (ys : List X) → P x → AnyOf P (xs ++ x ∷ ys)
@@ -24,37 +24,20 @@ module _ {X : Type 0} (P : X → Type 0) where
   abbrev pub Among : X → List X → Type 0
   Among x xs = (before : List X) × (after : List X) × (xs ≡ before ++ x ∷ after) × AllByRecursion P before × AllByRecursion P after
 
-  every_back : (xs ys : List X) → AllByRecursion P (xs ++ ys) → AllByRecursion P ys
-  every_back [] ys all = all
-  every_back (x ∷ xs) ys all = every_back xs ys all.1
-
   every_seconds : (ps : List (ℕ × X)) → AllByRecursion (λ (p : ℕ × X). P p.1) ps → AllByRecursion P (seconds ps)
   every_seconds [] all = tt
   every_seconds (p ∷ ps) all = (all.0, every_seconds ps all.1)
 
-  -- of two lists that are put together, one has the element
-  among_parts : (x : X) (xs ys before after : List X) → xs ++ ys ≡ before ++ x ∷ after → AllByRecursion P before → AllByRecursion P after → (Among x xs × AllByRecursion P ys) ⊎ (Among x ys × AllByRecursion P xs)
-  among_parts x [] ys before after is front back = inr ((before, after, is, front, back), tt)
-  among_parts x (y ∷ xs) ys [] after is front back =
-      let same : after ≡ xs ++ ys = cc in
-      let here : y ∷ xs ≡ x ∷ xs = cc in
-      let rest = subst (AllByRecursion P) same back in
-      inl (([], xs, here, tt, each-front P xs ys rest), every_back xs ys rest)
-  among_parts x (y ∷ xs) ys (z ∷ before) after is front back =
-      let same : z ≡ y = cc in
-      let rest : xs ++ ys ≡ before ++ x ∷ after = cc in
-      let holds = subst P same front.0 in
-      elim (among_parts x xs ys before after rest front.1 back) [
-        | inl h ↦ inl ((y ∷ h.0.0, h.0.1, ap (λ (l : List X). y ∷ l) h.0.2, (holds, h.0.3), h.0.4), h.1)
-        | inr h ↦ inr (h.0, (holds, h.1))
-      ]
-
-  -- and so do they the other way round
+  -- two lists have it that are put together the other way round
   among_turned : (x : X) (xs ys before after : List X) → ys ++ xs ≡ before ++ x ∷ after → AllByRecursion P before → AllByRecursion P after → Among x (xs ++ ys)
   among_turned x xs ys before after is front back =
-      elim (among_parts x ys xs before after is front back) [
-        | inl h ↦ (xs ++ h.0.0, h.0.1, ap (λ (l : List X). xs ++ l) h.0.2 ∙ sym (append_assoc xs h.0.0 (x ∷ h.0.1)), each-append P xs h.0.0 h.1 h.0.3, h.0.4)
-        | inr h ↦ (h.0.0, h.0.1 ++ ys, ap (λ (l : List X). l ++ ys) h.0.2 ∙ append_assoc h.0.0 (x ∷ h.0.1) ys, h.0.3, each-append P h.0.1 ys h.0.4 h.1)
+      elim (parts_of ys xs before after x is) [
+        | inl h ↦
+          let later = subst (AllByRecursion P) h.2 back in
+              (xs ++ before, h.0, ap (λ (l : List X). xs ++ l) h.1 ∙ sym (append_assoc xs before (x ∷ h.0)), each-append P xs before (each-back P h.0 xs later) front, each-front P h.0 xs later)
+        | inr h ↦
+          let first = subst (AllByRecursion P) h.1 front in
+              (h.0, after ++ ys, ap (λ (l : List X). l ++ ys) h.2 ∙ append_assoc h.0 (x ∷ after) ys, each-back P ys h.0 first, each-append P after ys back (each-front P ys h.0 first))
       ]
 
 unnumbered : {X : Type 0} (n : ℕ) (xs : List X) → seconds (enumerate_from n xs) ≡ xs
@@ -93,7 +76,7 @@ gave_output {X} {A} asks old new stopped x h =
     subst (AnyOf (λ (t : Turn X A). t.answer ≡ Some (Ready (Some x)))) (sym it.2) (any_between _ it.0 _ it.1 refl)
 
 -- where no group was left unasked and none gave an output, each was asked
-all_asked : {X A : Type 0} (asks : Bool → X → Poll (Option A) → X → Type 0) (old new : Groups X) (stopped : Bool) (turns : List (Turn X A)) (last : Poll (Option A)) → NoOutput last → AsksLast asks old turns last [] stopped new → AllByRecursion GaveNoOutput turns
+pub all_asked : {X A : Type 0} (asks : Bool → X → Poll (Option A) → X → Type 0) (old new : Groups X) (stopped : Bool) (turns : List (Turn X A)) (last : Poll (Option A)) → NoOutput last → AsksLast asks old turns last [] stopped new → AllByRecursion GaveNoOutput turns
 all_asked asks old new stopped turns last none h =
     let it = among_turns asks old new stopped turns last [] h GaveNoOutput h.no_output_before tt in
     subst (AllByRecursion GaveNoOutput) (sym it.2) (each-append GaveNoOutput it.0 (_ ∷ it.1) it.3 (none, it.4))
