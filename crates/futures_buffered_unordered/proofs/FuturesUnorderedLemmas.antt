@@ -15,7 +15,7 @@ use Rattle.futures_buffered_core.specs.SlotMap.{held_count, slot_count}
 use Rattle.futures_buffered_table.specs.declared.answer.TheConstants.{MAX_CAPACITY}
 use Rattle.futures_buffered_table.specs.declared.answer.Woke.{Woke}
 use Rattle.futures_buffered_unordered.specs.FuturesUnorderedBounded.{Bounded, Pushes, IsNewSet, held_in}
-use Rattle.futures_buffered_unordered.specs.Groups.{Groups, outputs_in}
+use Rattle.futures_buffered_unordered.specs.Groups.{Groups}
 use Rattle.futures_buffered_unordered.proofs.GroupsLemmas.{same_parts}
 use Rattle.futures_buffered_unordered.proofs.GroupsStepLemmas.{split_at, split_set}
 use Rattle.futures_buffered_unordered.specs.declared.futures_unordered.TheConstants.{MAX_HELD}
@@ -186,7 +186,7 @@ module _ {F S : Type 0} (needs : S → ℕ → Type 0) (cx : Context) where
   covers_any [] covered some = absurd (omega (arith, some))
   covers_any (g ∷ gs) covered some = ((covered 0 g (omega arith)).0, hears_any (g ∷ gs) covered)
 
-  -- a task that is registered with each group, where one holds a future, hears of what any needs
-  pub covered_of : {A : Type 0} (answer : Poll (Option A)) (old groups : List (Bounded F S)) → OnPending answer (EachCovered needs cx groups) → (held_in_all old ≡ 0 → answer ≡ Ready None) → held_in_all groups + outputs_in answer ≡ held_in_all old → OnPending answer (Covers cx (AnyNeeds needs groups))
-  covered_of (Ready o) old groups covered ends count = tt
-  covered_of Pending old groups covered ends count = covers_any groups covered (grind arith)
+  -- a task that is registered with each group, where one holds a value, hears of what any needs
+  pub covered_of : {A : Type 0} (answer : Poll (Option A)) (groups : List (Bounded F S)) → OnPending answer (EachCovered needs cx groups) → OnPending answer (0 < held_in_all groups) → OnPending answer (Covers cx (AnyNeeds needs groups))
+  covered_of (Ready o) groups covered some = tt
+  covered_of Pending groups covered some = covers_any groups covered some

@@ -1,9 +1,10 @@
 -- What one poll makes of groups, by what holds of each group that is asked.
-use Rattle.std.proofs.Common.{◌≡◌, ◌≢◌, ◌⊎◌, ℕ, ◌+◌, Bool, true, false, ◌<◌, cond, ◌&&◌, ◌↔◌, MatchOption, List, [], ◌∷◌, ◌++◌, take, drop, Option, Some, None, refl, sym, ap, subst, inl, inr, arith, ◌∙◌}
+use Rattle.std.proofs.Common.{◌≡◌, ◌≢◌, ℕ, ◌+◌, Bool, true, false, ◌<◌, cond, ◌&&◌, ◌↔◌, MatchOption, List, [], ◌∷◌, ◌++◌, take, drop, Option, Some, None, refl, sym, ap, subst, inl, inr, arith, ◌∙◌}
 use Rattle.std.specs.Prelude.{⊤}
 use Rattle.std.specs.List.{AllZip, AllByRecursion, enumerate_from, list_all, sum_by}
 use Rattle.std.proofs.lemmas.List.{append_assoc, map-append, take-append-drop}
 use Rattle.std.proofs.lemmas.List.Sums.{sum_by-cons, sum_by-append}
+use Rattle.futures.specs.Poll.{OnPending}
 use Rattle.futures.specs.Runs.{seconds}
 use Rattle.futures.proofs.SentLemmas.{AllByRecursion_weaker}
 use Rattle.futures.specs.declared.task.Poll.{Poll}
@@ -33,11 +34,11 @@ module _ {X : Type 0} (P : X → Type 0) where
   among_turned x xs ys before after is front back =
       elim (parts_of ys xs before after x is) [
         | inl h ↦
-          let later = subst (AllByRecursion P) h.2 back in
-              (xs ++ before, h.0, ap (λ (l : List X). xs ++ l) h.1 ∙ sym (append_assoc xs before (x ∷ h.0)), each-append P xs before (each-back P h.0 xs later) front, each-front P h.0 xs later)
+            let later = subst (AllByRecursion P) h.2 back in
+            (xs ++ before, h.0, ap (λ (l : List X). xs ++ l) h.1 ∙ sym (append_assoc xs before (x ∷ h.0)), each-append P xs before (each-back P h.0 xs later) front, each-front P h.0 xs later)
         | inr h ↦
-          let first = subst (AllByRecursion P) h.1 front in
-              (h.0, after ++ ys, ap (λ (l : List X). l ++ ys) h.2 ∙ append_assoc h.0 (x ∷ after) ys, each-back P ys h.0 first, each-append P after ys back (each-front P ys h.0 first))
+            let first = subst (AllByRecursion P) h.1 front in
+            (h.0, after ++ ys, ap (λ (l : List X). l ++ ys) h.2 ∙ append_assoc h.0 (x ∷ after) ys, each-back P ys h.0 first, each-append P after ys back (each-front P ys h.0 first))
       ]
 
 unnumbered : {X : Type 0} (n : ℕ) (xs : List X) → seconds (enumerate_from n xs) ≡ xs
@@ -208,6 +209,10 @@ module _ {F A S : Type 0} (asks : Bool → Bounded F S → Poll (Option A) → B
   -- a pending poll leaves a value
   groups_pending : (old new : Groups (Bounded F S)) (stopped : Bool) → GroupsGive asks old Pending stopped new → 0 < held_in_all new.listed
   groups_pending old new stopped h = rw h.3.leaves (one_goes_on old.listed h.0 h.3.each (all_asked asks old new stopped h.0 h.1 h.2 h.3) h.4)
+
+  pub still_held : (old new : Groups (Bounded F S)) (stopped : Bool) (answer : Poll (Option A)) → GroupsGive asks old answer stopped new → OnPending answer (0 < held_in_all new.listed)
+  still_held old new stopped (Ready o) h = tt
+  still_held old new stopped Pending h = groups_pending old new stopped h
 
   -- one that answers the end leaves none
   groups_ended : (old new : Groups (Bounded F S)) (stopped : Bool) → GroupsGive asks old (Ready None) stopped new → held_in_all new.listed ≡ 0

@@ -20,7 +20,7 @@ use Rattle.futures_buffered_unordered.specs.StreamAnswers.{StreamAnswers, stream
 use Rattle.futures_buffered_unordered.specs.FuturesUnorderedInvariant.{KeepsGroup}
 use Rattle.futures_buffered_unordered.specs.FuturesUnordered.{AnyGroupMayGive, ComesFromGroups}
 use Rattle.futures_buffered_unordered.proofs.FuturesUnorderedInvariantLemmas.{alike_asked, alike_self}
-use Rattle.futures_buffered_unordered.proofs.FuturesUnorderedPollLemmas.{any_left, any_output, ends_none_held, groups_counted}
+use Rattle.futures_buffered_unordered.proofs.FuturesUnorderedPollLemmas.{any_left, any_output, ends_none_held, groups_counted, still_held}
 use Rattle.futures_buffered_unordered.proofs.StreamAnswersLemmas.{after_item, while_pending}
 
 module _ {F A S : Type 0} (needs : S → ℕ → Type 0) (polled : ℕ → F → Poll A → F → Type 0) (steps : SourceSteps S)
@@ -61,6 +61,9 @@ module _ {F A S : Type 0} (polled : ℕ → F → Poll A → F → Type 0) (step
     -- the answer is the end where no future was held
     pub ends_of : (answer : Poll (Option A)) → GroupsGive (PollAsks polled steps) old answer stopped new → (answer ≡ Ready None) ↔ (held_in_all old.listed ≡ 0)
     ends_of answer h = ends_none_held (PollAsks polled steps) ended_empty pending_holds counted old new stopped answer h
+
+    pub held_of : (answer : Poll (Option A)) → GroupsGive (PollAsks polled steps) old answer stopped new → OnPending answer (0 < held_in_all new.listed)
+    held_of answer h = still_held (PollAsks polled steps) ended_empty pending_holds old new stopped answer h
 
     pub still : (answer : Poll (Option A)) → GroupsGive (PollAsks polled steps) old answer stopped new → (y : A) → AnyGroupMayGive polled new.listed y → AnyGroupMayGive polled old.listed y
     still answer h y any = any_left (PollAsks polled steps) (λ (g : Bounded F S). AnyMayGive polled g.slots y) (λ b group left a asked. poll_still polled steps y group left a (asked_gives b group left a asked)) old answer stopped new h any

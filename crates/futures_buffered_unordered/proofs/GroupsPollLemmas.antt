@@ -1,5 +1,5 @@
 -- What a poll has asked so far, and what one more group makes of it.
-use Rattle.std.proofs.Common.{◌≡◌, ◌⊎◌, ℕ, ◌+◌, ◌<◌, ◌≤◌, Bool, true, false, not, ◌||◌, cond, MatchOption, List, [], ◌∷◌, ◌++◌, length, take, drop, get_or, Option, Some, None, is_some, true≢false, refl, sym, ap, subst, inl, inr, arith, append-nil, ◌∙◌}
+use Rattle.std.proofs.Common.{◌≡◌, ◌⊎◌, ℕ, ◌+◌, ◌<◌, ◌≤◌, Bool, false, not, ◌||◌, cond, MatchOption, List, [], ◌∷◌, ◌++◌, length, take, drop, get_or, Option, Some, None, refl, sym, ap, subst, inl, inr, arith, append-nil, ◌∙◌}
 use Rattle.std.specs.List.{AllZip, AllByRecursion, enumerate_from, list_all, list_any}
 use Rattle.std.proofs.lemmas.List.{append_assoc, length-append, length_push, drop_all, drop_more, take_all, take-append-drop}
 use Rattle.std.proofs.lemmas.List.FromFn.{get_or-enumerate_from, length-enumerate_from}
@@ -217,14 +217,3 @@ module _ {X A : Type 0} (asks : Bool → X → Poll (Option A) → X → Type 0)
           } in
           let gave : AsksAll asks old (not pending) stopped now = (so.turns, answer, none, last, ends_all so.turns (all_asked asks old now stopped so.turns answer none last) ∙ ap not so.pendings) in
           grind arith
-
-  -- the answer is known by the arm that it came to
-  pub so_far_none_left : (count : ℕ) (pending stopped stops : Bool) (now new : Groups X) (o : Option A) → is_some o ≡ false → SoFar count pending stopped now → count < length old.listed → AsksOne (asks stops) now (Ready o) new → SoFar (count + 1) pending (stopped || stops) new
-  so_far_none_left count pending stopped stops now new None e so more one = let step = so_far_step count pending stopped stops now new (Ready None) so more one tt in grind arith
-  so_far_none_left count pending stopped stops now new (Some x) e so more one = absurd (true≢false e)
-
-  pub so_far_pending : (count : ℕ) (pending stopped stops : Bool) (now new : Groups X) → SoFar count pending stopped now → count < length old.listed → AsksOne (asks stops) now Pending new → SoFar (count + 1) true (stopped || stops) new
-  so_far_pending count pending stopped stops now new so more one = let step = so_far_step count pending stopped stops now new Pending so more one tt in grind arith
-
-  pub so_far_some_left : (count : ℕ) (pending stopped stops : Bool) (now new : Groups X) (o : Option A) (x : A) → o ≡ Some x → SoFar count pending stopped now → count < length old.listed → AsksOne (asks stops) now (Ready o) new → GroupsGive asks old (Ready (Some x)) (stopped || stops) new
-  so_far_some_left count pending stopped stops now new o x e so more one = so_far_last count pending stopped stops now new (Ready (Some x)) so more (subst (λ (p : Option A). AsksOne (asks stops) now (Ready p) new) e one)

@@ -1,5 +1,5 @@
 -- What the streams of a merge give over many polls, with pushes between them.
-use Rattle.std.proofs.Common.{◌≡◌, ℕ, ◌==◌, cond, List, [], ◌∷◌, ◌++◌, Option, Some, None, refl, sym, ap, subst, inl, inr, append_assoc, ◌∙◌}
+use Rattle.std.proofs.Common.{ℕ, ◌==◌, cond, List, [], ◌∷◌, ◌++◌, Option, Some, None, refl, sym, ap, subst, inl, inr, append_assoc, ◌∙◌}
 use Rattle.std.proofs.lemmas.Bool.{cases_eq}
 use Rattle.std.proofs.lemmas.List.{map-append}
 use Rattle.std.proofs.lemmas.List.Elements.{filter_map-append}
@@ -10,7 +10,7 @@ use Rattle.futures_buffered_table.specs.declared.answer.Woke.{Woke}
 use Rattle.futures_buffered_core.specs.ReadySource.{SourceSteps}
 use Rattle.futures_buffered_unordered.specs.FuturesUnorderedBounded.{Bounded}
 use Rattle.futures_buffered_unordered.proofs.HeldLemmas.{value_inserted, value_inserted_other}
-use Rattle.futures_buffered_unordered.specs.SlotStream.{item_of, items_in, Became}
+use Rattle.futures_buffered_unordered.specs.SlotStream.{item_of, items_in}
 use Rattle.futures_buffered_unordered.specs.MergeBounded.{answered, pushed, answers_of, streams_of, HeldInTurn, SlotsGaveInTurn, KeepsOrderWithPushes}
 use Rattle.futures_buffered_unordered.proofs.SlotStreamLemmas.{became_none, became_on, gave_none}
 use Rattle.futures_buffered_unordered.proofs.MergeBoundedLemmas.{items_elsewhere, items_here, polled_gave, streams_none}

@@ -3,7 +3,6 @@ use Rattle.std.proofs.Common.{◌≡◌, ℕ, Bool, ◌<◌, ◌↔◌, List, []
 use Rattle.std.specs.List.{FoldsTo}
 use Rattle.futures.specs.Poll.{IfReady, OnPending}
 use Rattle.futures.specs.Runs.{After, Within}
-use Rattle.futures.specs.Task.{Covers}
 use Rattle.futures.specs.declared.task.context.Context.{Context}
 use Rattle.futures.specs.declared.task.Poll.{Poll}
 use Rattle.futures.specs.declared.task.Poll.TheVariants.{Ready, Pending}
@@ -15,10 +14,9 @@ use Rattle.futures_buffered_table.specs.declared.answer.Woke.{Woke}
 use Rattle.futures_buffered_unordered.specs.FuturesUnorderedBounded.{Asks, Bounded, OnlyRegisters, held_in}
 use Rattle.futures_buffered_unordered.specs.Groups.{AnyOf, Groups, GroupsGive, WakesIf}
 use Rattle.futures_buffered_unordered.proofs.HeldLemmas.{count-with}
-use Rattle.futures_buffered_unordered.specs.FuturesUnordered.{held_in_all, EachCovered, AnyNeeds, PollsGroup}
+use Rattle.futures_buffered_unordered.specs.FuturesUnordered.{held_in_all, PollsGroup}
 use Rattle.futures_buffered_unordered.proofs.FuturesUnorderedInvariantLemmas.{alike_asked, alike_on, alike_self}
-use Rattle.futures_buffered_unordered.proofs.FuturesUnorderedLemmas.{covered_of}
-use Rattle.futures_buffered_unordered.proofs.FuturesUnorderedPollLemmas.{any_left, any_output, ends_empty}
+use Rattle.futures_buffered_unordered.proofs.FuturesUnorderedPollLemmas.{any_left, any_output, ends_empty, still_held}
 use Rattle.futures_buffered_unordered.proofs.FuturesUnorderedBoundedLemmas.{passed_held}
 use Rattle.futures_buffered_unordered.specs.Merging.{CountEnds, LastAsks, MergeAsks, PollsMergeBounded, SlotStreamOf, unless_registered}
 use Rattle.futures_buffered_unordered.specs.MergeUnbounded.{GroupMayGive, ItemsComeFromGroups}
@@ -73,6 +71,9 @@ module _ {F A S : Type 0} (polled : ℕ → F → Poll (Option A) → F → Type
     pub ends_of : (answer : Poll (Option A)) → GroupsGive (MergeAsks polled steps marks) old answer stopped new → (answer ≡ Ready None) ↔ (held_in_all new.listed ≡ 0)
     ends_of answer h = ends_empty (MergeAsks polled steps marks) end_held pending_held item_held old new stopped answer h
 
+    pub held_of : (answer : Poll (Option A)) → GroupsGive (MergeAsks polled steps marks) old answer stopped new → OnPending answer (0 < held_in_all new.listed)
+    held_of answer h = still_held (MergeAsks polled steps marks) end_held pending_held old new stopped answer h
+
     -- the items that may come
     group_left : (y : A) (b : Bool) (group left : Bounded F S) (answer : Poll (Option A)) → MergeAsks polled steps marks b group answer left → GroupMayGive polled left y → GroupMayGive polled group y
     group_left y b group left (Ready (Some x)) h may = (x ∷ may.0, rest_of polled steps marks group left (Ready (Some x)) (b, h) may.0 (Some y) may.1)
@@ -103,11 +104,6 @@ module _ {F A S : Type 0} (polled : ℕ → F → Poll (Option A) → F → Type
         within : Within (ItemsComeFromGroups polled old.listed) (ItemsComeFromGroups polled new.listed)
         within items None run = tt
         within items (Some y) run = still Pending h y run
-
--- a task that is registered with each group, where one holds a stream, hears of what any needs
-pub covered_any : {F S A : Type 0} (needs : S → ℕ → Type 0) (cx : Context) (answer : Poll (Option A)) (groups : List (Bounded F S)) → OnPending answer (EachCovered needs cx groups) → (held_in_all groups ≡ 0 → answer ≡ Ready None) → OnPending answer (Covers cx (AnyNeeds needs groups))
-covered_any needs cx (Ready o) groups covered ends = tt
-covered_any needs cx Pending groups covered ends = covered_of needs cx Pending groups groups covered ends (omega arith)
 
 -- A poll of a group, which registers unless the task is registered, as that of a merge that grows.
 module _ {St W A S : Type 0} (stream : SlotStreamOf St W A) (source : ReadySourceOf S W) (is_registered : Bool) (old new : Bounded St S) (answer : Poll (Option A)) (cx left : Context) (it : PollsMergeBounded stream (unless_registered is_registered source) old answer new cx left) where

@@ -17,7 +17,7 @@ use Rattle.futures_buffered_unordered.specs.Held.{AllHeld, ComesFrom, EndsWith, 
 use Rattle.futures_buffered_unordered.specs.FuturesUnorderedBounded.{Bounded, Asks, AsksNone, AsksUntil, EndsWaiting, PollAsks, PollGives, with_source}
 use Rattle.futures_buffered_unordered.specs.Groups.{WakesIf}
 use Rattle.futures_buffered_unordered.specs.PollsBounded.{EndsPending, PollOneOf, PollsBounded, ReadySourceOf, RegistersAndTakes, TakesNames}
-use Rattle.futures_buffered_unordered.proofs.HeldLemmas.{AllHeld-with, AllHeldBut-with, count-with, same-with, value_in-with_value, passes_free, passes_pending}
+use Rattle.futures_buffered_unordered.proofs.HeldLemmas.{AllHeld-with, AllHeldBut-with, count-with, same-with, value_in-with_value, passes_pending}
 use Rattle.futures_buffered_unordered.proofs.StreamAnswersLemmas.{after_item, while_pending, covers_fewer}
 use Rattle.futures_buffered_unordered.proofs.FuturesUnorderedBoundedLemmas.{rest_of, same_of, value_of}
 
@@ -46,31 +46,27 @@ module _ {R F W A S : Type 0} (rule : PollOneOf R F W A) (source : ReadySourceOf
         capacity = ap slot_count same_slots;
       }
 
-  pub SoFar-skip : (old : Bounded F S) (count i : ℕ) (slots : Slots F) (now left : S) → SoFar old count slots now → source.steps.takes now (Slot i) left → value_in slots i ≡ None → SoFar old (count + 1) slots left
-  SoFar-skip old count i slots now left so taken e =
+  -- one more name, which gave no output
+  SoFar-step : (old : Bounded F S) (count i : ℕ) (slots new : Slots F) (now left : S) → SoFar old count slots now → source.steps.takes now (Slot i) left → Passes rule.polled slots i new → AllHeld rule.can_poll new → held_count new ≡ held_count slots → ((j : ℕ) → is_some (value_in new j) ≡ is_some (value_in slots j)) → slot_count new ≡ slot_count slots
+      → SoFar old (count + 1) new left
+  SoFar-step old count i slots new now left so taken passes pollable held same capacity =
       record {
         names = so.names ++ i ∷ [];
         counted = omega (arith, length_push so.names i, so.counted);
         answers = rw (map_push Slot so.names i) (FoldsTo-push source.steps.takes old.source (map Slot so.names) now (Slot i) left so.answers taken);
-        passes = FoldsTo-push (Passes rule.polled) old.slots so.names slots i slots so.passes (passes_free rule.polled slots i e);
-        pollable = so.pollable;
-        held = so.held;
-        same_slots = so.same_slots;
-        capacity = so.capacity;
+        passes = FoldsTo-push (Passes rule.polled) old.slots so.names slots i new so.passes passes;
+        pollable = pollable;
+        held = held ∙ so.held;
+        same_slots = λ j. same j ∙ so.same_slots j;
+        capacity = capacity ∙ so.capacity;
       }
+
+  pub SoFar-skip : (old : Bounded F S) (count i : ℕ) (slots : Slots F) (now left : S) → SoFar old count slots now → source.steps.takes now (Slot i) left → value_in slots i ≡ None → SoFar old (count + 1) slots left
+  SoFar-skip old count i slots now left so taken e = SoFar-step old count i slots slots now left so taken (rw e refl) so.pollable refl (λ j. refl) refl
 
   pub SoFar-pending : (old : Bounded F S) (count i : ℕ) (slots : Slots F) (now left : S) (f f2 : F) → SoFar old count slots now → source.steps.takes now (Slot i) left → Some f ≡ value_in slots i → rule.polled i f Pending f2 → rule.can_poll f2 → SoFar old (count + 1) (with_value slots i f2) left
   SoFar-pending old count i slots now left f f2 so taken e h again =
-      record {
-        names = so.names ++ i ∷ [];
-        counted = omega (arith, length_push so.names i, so.counted);
-        answers = rw (map_push Slot so.names i) (FoldsTo-push source.steps.takes old.source (map Slot so.names) now (Slot i) left so.answers taken);
-        passes = FoldsTo-push (Passes rule.polled) old.slots so.names slots i (with_value slots i f2) so.passes (passes_pending rule.polled slots i f f2 (sym e) h);
-        pollable = AllHeld-with rule.can_poll slots i f2 so.pollable again;
-        held = count-with slots i f f2 e ∙ so.held;
-        same_slots = λ j. same-with slots i j f f2 e ∙ so.same_slots j;
-        capacity = length-set slots.places i (Some f2) ∙ so.capacity;
-      }
+      SoFar-step old count i slots (with_value slots i f2) now left so taken (passes_pending rule.polled slots i f f2 (sym e) h) (AllHeld-with rule.can_poll slots i f2 so.pollable again) (count-with slots i f f2 e) (λ j. same-with slots i j f f2 e) (length-set slots.places i (Some f2))
 
   module _ (old : Bounded F S) (count limit : ℕ) (slots : Slots F) (now : S) (so : SoFar old count slots now) (same : limit ≡ old.limit) (cx left : Context) where
     -- the value of the slot named last was ready

@@ -1,11 +1,11 @@
-use Rattle.futures_buffered_unordered.proofs.MergeUnboundedLemmas.{covered_any, ends_of}
+use Rattle.futures_buffered_unordered.proofs.FuturesUnorderedLemmas.{covered_of}
+use Rattle.futures_buffered_unordered.proofs.MergeUnboundedLemmas.{ends_of, held_of}
 use Rattle.futures_buffered_unordered.proofs.merge_unbounded.MergeUnboundedStream.poll_next.Goals as goal
 
 pub returns : goal.returns
 returns g c =
     let source = g.S.ReadySource in
     let poll = c.poll_groups.ensures in
-    let ends = ends_of g.St.SlotStream.polled source.steps source.marks _ _ _ _ poll.gave in
     record {
       groups = record {
         stopped = poll.stopped;
@@ -17,6 +17,6 @@ returns g c =
         kept = poll.kept;
         pollable = poll.pollable;
       };
-      ends = ends;
-      registered = covered_any source.needs c.poll_groups.new.cx c.poll_groups.result c.poll_groups.new.self.groups.listed poll.covered ends.1;
+      ends = ends_of g.St.SlotStream.polled source.steps source.marks _ _ _ _ poll.gave;
+      registered = covered_of source.needs c.poll_groups.new.cx c.poll_groups.result c.poll_groups.new.self.groups.listed poll.covered (held_of g.St.SlotStream.polled source.steps source.marks _ _ _ _ poll.gave);
     }
