@@ -21,7 +21,7 @@ use Rattle.futures_buffered_unordered.specs.FuturesUnorderedInvariant.{KeepsGrou
 use Rattle.futures_buffered_unordered.specs.FuturesUnordered.{AnyGroupMayGive, ComesFromGroups}
 use Rattle.futures_buffered_unordered.proofs.FuturesUnorderedInvariantLemmas.{alike_asked, alike_self}
 use Rattle.futures_buffered_unordered.proofs.FuturesUnorderedPollLemmas.{any_left, any_output, ends_none_held, groups_counted, still_held}
-use Rattle.futures_buffered_unordered.proofs.StreamAnswersLemmas.{after_item, while_pending}
+use Rattle.futures_buffered_unordered.proofs.StreamAnswersLemmas.{answers_of}
 
 module _ {F A S : Type 0} (needs : S → ℕ → Type 0) (polled : ℕ → F → Poll A → F → Type 0) (steps : SourceSteps S)
     (register_waits : (old new : S) → steps.registers old new → WaitsAlike needs old new) (take_waits : (old : S) (taken : Taken) (new : S) → steps.takes old taken new → WaitsAlike needs old new) where
@@ -89,12 +89,5 @@ module _ {F A S : Type 0} (polled : ℕ → F → Poll A → F → Type 0) (step
 pub answers_as_stream : {R F W A S : Type 0} (rule : PollOneOf R F W A) (source : ReadySourceOf S W) (old new : Growing F S) (answer : Poll (Option A)) (cx left : Context) → PollsGrowing rule source old answer new cx left
     → StreamAnswers (stream_of (λ set. EachHeld rule.can_poll set.groups.listed) (λ set. AnyNeeds source.needs set.groups.listed) (λ set. ComesFromGroups rule.polled set.groups.listed)) old answer new cx left
 answers_as_stream rule source old new answer cx left it =
-    record {
-      value = value_of rule.polled source.steps _ _ _ answer it.groups.gave;
-      rest = rest_of rule.polled source.steps _ _ _ answer it.groups.gave;
-      same = same_of rule.polled source.steps _ _ _ answer it.groups.gave;
-      goes = after_item answer it.groups.pollable;
-      again = while_pending answer it.groups.pollable;
-      registered = it.registered;
-      kept = it.groups.kept;
-    }
+    let gave = it.groups.gave in
+    answers_of _ old new answer cx left (value_of rule.polled source.steps _ _ _ answer gave) (rest_of rule.polled source.steps _ _ _ answer gave) (same_of rule.polled source.steps _ _ _ answer gave) it.groups.pollable it.registered it.groups.kept

@@ -7,11 +7,11 @@ use Rattle.futures.specs.declared.task.context.Context.{Context}
 use Rattle.futures.specs.declared.task.Poll.{Poll}
 use Rattle.futures.specs.declared.task.Poll.TheVariants.{Ready, Pending}
 use Rattle.futures_buffered_core.specs.ReadySource.{WaitsAlike, SourceSteps}
-use Rattle.futures_buffered_core.specs.SlotMap.{Slots, held_count}
+use Rattle.futures_buffered_core.specs.SlotMap.{held_count}
 use Rattle.futures_buffered_core.specs.declared.ready_source.ReadySource.{Ghosts as ReadySourceOf}
 use Rattle.futures_buffered_table.specs.declared.answer.Taken.{Taken}
 use Rattle.futures_buffered_table.specs.declared.answer.Woke.{Woke}
-use Rattle.futures_buffered_unordered.specs.FuturesUnorderedBounded.{Asks, Bounded, OnlyRegisters, held_in}
+use Rattle.futures_buffered_unordered.specs.FuturesUnorderedBounded.{Bounded, OnlyRegisters, held_in}
 use Rattle.futures_buffered_unordered.specs.Groups.{AnyOf, Groups, GroupsGive, WakesIf}
 use Rattle.futures_buffered_unordered.proofs.HeldLemmas.{count-with}
 use Rattle.futures_buffered_unordered.specs.FuturesUnordered.{held_in_all, PollsGroup}
@@ -26,12 +26,8 @@ use Rattle.futures_buffered_unordered.proofs.MergeBoundedLemmas.{value_of, rest_
 
 module _ {F A S : Type 0} (needs : S → ℕ → Type 0) (polled : ℕ → F → Poll (Option A) → F → Type 0) (steps : SourceSteps S) (marks : S → ℕ → Woke → S → Type 0)
     (register_waits : (old new : S) → steps.registers old new → WaitsAlike needs old new) (mark_waits : (old : S) (i : ℕ) (woke : Woke) (new : S) → marks old i woke new → WaitsAlike needs old new) (take_waits : (old : S) (taken : Taken) (new : S) → steps.takes old taken new → WaitsAlike needs old new) where
-  -- one round leaves the source at the same places
-  alike_round : (old : Bounded F S) (names : List ℕ) (last : Option Taken) (slots : Slots F) (source : S) → Asks polled steps old names last slots source → WaitsAlike needs old.source source
-  alike_round = alike_asked needs polled steps register_waits take_waits
-
   alike_ended : (old new : Bounded F S) (i : ℕ) → CountEnds polled steps marks old i new → WaitsAlike needs old.source new.source
-  alike_ended old new i h = subst (λ (b : Bounded F S). WaitsAlike needs old.source b.source) (sym h.1.2) (alike_round _ _ _ _ _ h.1.1.3)
+  alike_ended old new i h = subst (λ (b : Bounded F S). WaitsAlike needs old.source b.source) (sym h.1.2) (alike_asked needs polled steps register_waits take_waits _ _ _ _ _ h.1.1.3)
 
   alike_counts : (slots : List ℕ) (old new : Bounded F S) → FoldsTo (CountEnds polled steps marks) old slots new → WaitsAlike needs old.source new.source
   alike_counts [] old new h = subst (λ (b : Bounded F S). WaitsAlike needs old.source b.source) h (alike_self needs old.source)
@@ -42,8 +38,8 @@ module _ {F A S : Type 0} (needs : S → ℕ → Type 0) (polled : ℕ → F →
   alike_last stopped old new (Ready (Some x)) h =
       let last = h.1 in
       let marked = last.3 in
-      alike_on needs old.source last.1.source new.source (alike_round _ _ _ _ _ last.2.3) (mark_waits last.1.source last.0 marked.0 new.source marked.1)
-  alike_last stopped old new Pending h = alike_round _ _ _ _ _ h.1.4
+      alike_on needs old.source last.1.source new.source (alike_asked needs polled steps register_waits take_waits _ _ _ _ _ last.2.3) (mark_waits last.1.source last.0 marked.0 new.source marked.1)
+  alike_last stopped old new Pending h = alike_asked needs polled steps register_waits take_waits _ _ _ _ _ h.1.4
 
   -- and so does a poll
   pub alike_merged : (stopped : Bool) (old new : Bounded F S) (answer : Poll (Option A)) → MergeAsks polled steps marks stopped old answer new → WaitsAlike needs old.source new.source

@@ -14,11 +14,11 @@ use Rattle.futures_buffered_table.specs.declared.answer.Taken.{Taken}
 use Rattle.futures_buffered_table.specs.declared.answer.Taken.TheVariants.{Slot, Empty, Pause}
 use Rattle.futures_buffered_unordered.specs.StreamAnswers.{StreamAnswers}
 use Rattle.futures_buffered_unordered.specs.Held.{AllHeld, ComesFrom, EndsWith, Passes}
-use Rattle.futures_buffered_unordered.specs.FuturesUnorderedBounded.{Bounded, Asks, AsksNone, AsksUntil, EndsWaiting, PollAsks, PollGives, with_source}
+use Rattle.futures_buffered_unordered.specs.FuturesUnorderedBounded.{Bounded, Asks, AsksNone, AsksUntil, EndsWaiting, PollAsks, PollGives, held_in, slots_in, with_empty_slot, with_source}
 use Rattle.futures_buffered_unordered.specs.Groups.{WakesIf}
 use Rattle.futures_buffered_unordered.specs.PollsBounded.{EndsPending, PollOneOf, PollsBounded, ReadySourceOf, RegistersAndTakes, TakesNames}
 use Rattle.futures_buffered_unordered.proofs.HeldLemmas.{AllHeld-with, AllHeldBut-with, count-with, same-with, value_in-with_value, passes_pending}
-use Rattle.futures_buffered_unordered.proofs.StreamAnswersLemmas.{after_item, while_pending, covers_fewer}
+use Rattle.futures_buffered_unordered.proofs.StreamAnswersLemmas.{answers_of, covers_fewer}
 use Rattle.futures_buffered_unordered.proofs.FuturesUnorderedBoundedLemmas.{rest_of, same_of, value_of}
 
 module _ {R F W A S : Type 0} (rule : PollOneOf R F W A) (source : ReadySourceOf S W) where
@@ -148,6 +148,36 @@ takes_after {R} {F} {W} {A} {S} rule source registers before old new answer cx l
       kept = it.kept;
     }
 
+-- from one round of a set that holds a value to a poll
+module _ {R F W A S : Type 0} (rule : PollOneOf R F W A) (source : ReadySourceOf S W) (old new : Bounded F S) (cx left : Context) (some : 0 < held_in old) where
+  pub polls_pending : RegistersAndTakes rule source old Pending new cx left → PollsBounded rule source old Pending new cx left
+  polls_pending asks =
+      let it = asks.takes in
+      record {
+        gave = (some, asks);
+        fewer = tt;
+        same = it.count;
+        capacity = it.capacity;
+        limit = it.limit;
+        covered = it.covered;
+        kept = asks.kept;
+        pollable = it.pollable;
+      }
+
+  pub polls_output : (i : ℕ) (x : A) (before : Bounded F S) → RegistersAndTakes rule source old (Ready (i, x)) before cx left → new ≡ with_empty_slot before i → held_in new + 1 ≡ held_in before → slots_in new ≡ slots_in before → AllHeld rule.can_poll new.slots → PollsBounded rule source old (Ready (Some x)) new cx left
+  polls_output i x before asks emptied fewer capacity pollable =
+      let it = asks.takes in
+      record {
+        gave = (some, (i, before, asks, emptied));
+        fewer = fewer ∙ it.count;
+        same = tt;
+        capacity = capacity ∙ it.capacity;
+        limit = ap (λ (b : Bounded F S). b.limit) emptied ∙ it.limit;
+        covered = tt;
+        kept = asks.kept;
+        pollable = pollable;
+      }
+
 -- What a caller takes from the record of a poll, who speaks of the value alone: the relation of
 -- values, by any registration that this one may be.
 module _ {R F W A S : Type 0} (rule : PollOneOf R F W A) (source : ReadySourceOf S W) (registers : S → S → Type 0) (within : (a b : S) → source.steps.registers a b → registers a b) where
@@ -210,12 +240,4 @@ module _ {R F W A S : Type 0} (rule : PollOneOf R F W A) (source : ReadySourceOf
       → StreamAnswers (record { can_poll = λ (set : Bounded F S). AllHeld rule.can_poll set.slots; needs = λ (set : Bounded F S) n. (0 < held_count set.slots) × source.needs set.source n; yields = λ (set : Bounded F S). ComesFrom rule.polled set.slots }) old answer new cx left
   answers_as_stream old new answer cx left it =
       let gives = gives_of rule source source.steps.registers (λ a b h. h) old new answer cx left it in
-      record {
-        value = value_of rule.polled source.steps old new answer gives;
-        rest = rest_of rule.polled source.steps old new answer gives it.fewer;
-        same = same_of rule.polled source.steps old new answer gives it.same;
-        goes = after_item answer it.pollable;
-        again = while_pending answer it.pollable;
-        registered = covers_fewer answer left (source.needs new.source) _ (λ n waits. waits.1) it.covered;
-        kept = it.kept;
-      }
+      answers_of _ old new answer cx left (value_of rule.polled source.steps old new answer gives) (rest_of rule.polled source.steps old new answer gives it.fewer) (same_of rule.polled source.steps old new answer gives it.same) it.pollable (covers_fewer answer left (source.needs new.source) _ (λ n waits. waits.1) it.covered) it.kept

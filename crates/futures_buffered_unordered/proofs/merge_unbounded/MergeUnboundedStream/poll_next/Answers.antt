@@ -1,3 +1,4 @@
+use Rattle.std.proofs.Common.{arith}
 use Rattle.futures_buffered_unordered.proofs.FuturesUnorderedLemmas.{covered_of}
 use Rattle.futures_buffered_unordered.proofs.MergeUnboundedLemmas.{ends_of, held_of}
 use Rattle.futures_buffered_unordered.proofs.merge_unbounded.MergeUnboundedStream.poll_next.Goals as goal
@@ -7,16 +8,7 @@ returns g c =
     let source = g.S.ReadySource in
     let poll = c.poll_groups.ensures in
     record {
-      groups = record {
-        stopped = poll.stopped;
-        gave = poll.gave;
-        woken = poll.woken;
-        at_end = poll.at_end;
-        limit = poll.limit;
-        covered = poll.covered;
-        kept = poll.kept;
-        pollable = poll.pollable;
-      };
+      groups = grind arith;
       ends = ends_of g.St.SlotStream.polled source.steps source.marks _ _ _ _ poll.gave;
       registered = covered_of source.needs c.poll_groups.new.cx c.poll_groups.result c.poll_groups.new.self.groups.listed poll.covered (held_of g.St.SlotStream.polled source.steps source.marks _ _ _ _ poll.gave);
     }
