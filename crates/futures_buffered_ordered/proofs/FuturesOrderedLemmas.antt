@@ -6,14 +6,14 @@ use Rattle.futures.specs.declared.task.context.Context.{Context}
 use Rattle.futures.specs.declared.task.Poll.{Poll}
 use Rattle.futures.specs.declared.task.Poll.TheVariants.{Ready}
 use Rattle.futures_buffered_core.specs.ReadySource.{SourceSteps}
-use Rattle.futures_buffered_unordered.specs.FuturesUnorderedBounded.{Bounded, PollGives, held_in}
+use Rattle.futures_buffered_unordered.specs.FuturesUnorderedBounded.{Bounded, PollAsks, held_in}
 use Rattle.futures_buffered_unordered.specs.Groups.{Groups, GroupsGive}
 use Rattle.futures_buffered_unordered.specs.FuturesUnordered.{AnyNeeds, Growing, IsNewGrowing, held_in_all}
 use Rattle.futures_buffered_core.specs.declared.ready_source.ReadySource.{Ghosts as ReadySourceOf}
 use Rattle.futures_buffered_unordered.specs.declared.poll_one.PollOne.{Ghosts as PollOneOf}
 use Rattle.futures_buffered_unordered.specs.PollsGrowing.{PollsGrowing}
 use Rattle.futures_buffered_unordered.proofs.FuturesUnorderedLemmas.{new_holds_none}
-use Rattle.futures_buffered_unordered.proofs.FuturesUnorderedStreamLemmas.{gave, groups_give, still}
+use Rattle.futures_buffered_unordered.proofs.FuturesUnorderedStreamLemmas.{asked_gives, gave, still}
 use Rattle.futures_buffered_unordered.proofs.FuturesUnorderedPollLemmas.{sum_left}
 use Rattle.futures_buffered_ordered.specs.Numbered.{NumberedPollsOf, PollsNumbered, held_with, of_numbered, outputs_with}
 use Rattle.futures_buffered_ordered.specs.OrderedEntries.{OrderedGives, PollsOrdered}
@@ -24,8 +24,10 @@ use Rattle.futures_buffered_ordered.proofs.OrderedEntriesLemmas.{gives_alone}
 
 module _ {F A S : Type 0} (i : ℕ) (polled : ℕ → F → Poll A → F → Type 0) (steps : SourceSteps S) where
   -- one poll of all groups
-  pub numbers_left : (old new : Groups (Bounded (Numbered F) S)) (stopped : Bool) (answer : Poll (Option (ℕ × A))) → GroupsGive (λ _. PollGives (PollsNumbered polled) steps) old answer stopped new → sum_by (held_with i) new.listed + outputs_with i answer ≡ sum_by (held_with i) old.listed
-  numbers_left old new stopped answer h = sum_left (PollGives (PollsNumbered polled) steps) (held_with i) (outputs_with i) (numbers_polled i polled steps) (numbers_ended i polled steps) (brings_none i polled steps) old new stopped answer h
+  pub numbers_left : (old new : Groups (Bounded (Numbered F) S)) (stopped : Bool) (answer : Poll (Option (ℕ × A))) → GroupsGive (PollAsks (PollsNumbered polled) steps) old answer stopped new → sum_by (held_with i) new.listed + outputs_with i answer ≡ sum_by (held_with i) old.listed
+  numbers_left old new stopped answer h =
+      let gives = asked_gives (PollsNumbered polled) steps in
+      sum_left (PollAsks (PollsNumbered polled) steps) (held_with i) (outputs_with i) (λ b group left a asked. numbers_polled i polled steps group left a (gives b group left a asked)) (λ b group left asked. numbers_ended i polled steps group left asked.0) (brings_none i polled steps) old new stopped answer h
 
 module _ {F S : Type 0} (made : ℕ → S → Type 0) (n limit : ℕ) (start : Growing (Numbered F) S) where
   -- a new set holds nothing
@@ -40,7 +42,7 @@ module _ {F S : Type 0} (made : ℕ → S → Type 0) (n limit : ℕ) (start : G
 module _ {F A S : Type 0} (polled : ℕ → F → Poll A → F → Type 0) (steps : SourceSteps S) where
   -- one poll of the groups, told of them alone
   abbrev pub GroupsAlone : Growing (Numbered F) S → Poll (Option (ℕ × A)) → Growing (Numbered F) S → Type 0
-  GroupsAlone old answer new = (stopped : Bool) × GroupsGive (λ _. PollGives (PollsNumbered polled) steps) old.groups answer stopped new.groups
+  GroupsAlone old answer new = (stopped : Bool) × GroupsGive (PollAsks (PollsNumbered polled) steps) old.groups answer stopped new.groups
 
   -- what the set gave it might give, and what it may still give it might give before
   pub groups_gave : (old new : Growing (Numbered F) S) (out : ℕ × A) → GroupsAlone old (Ready (Some out)) new → GrowingMayGive polled old out
@@ -60,4 +62,4 @@ module _ {R F W A S : Type 0} (rule : PollOneOf R F W A) (source : ReadySourceOf
 
   -- one poll of the queue, told of it alone
   pub queue_gives_of : (old new : OrderedGrowing F A S) (answer : Poll (Option A)) (cx left : Context) → PollsOrdered held_in_groups SameLimit growing_polls old answer new cx left → OrderedGives (GroupsAlone rule.polled source.steps) held_in_groups old answer new
-  queue_gives_of old new answer cx left poll = gives_alone (PollsGrowing (of_numbered rule) source) (GroupsAlone rule.polled source.steps) (λ a b given before after h. (h.groups.stopped, groups_give (PollsNumbered rule.polled) source.steps a.groups b.groups h.groups.stopped given h.groups.gave)) held_in_groups old new answer cx left poll.gave
+  queue_gives_of old new answer cx left poll = gives_alone (PollsGrowing (of_numbered rule) source) (GroupsAlone rule.polled source.steps) (λ a b given before after h. (h.groups.stopped, h.groups.gave)) held_in_groups old new answer cx left poll.gave

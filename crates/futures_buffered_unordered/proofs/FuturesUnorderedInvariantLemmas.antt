@@ -1,6 +1,6 @@
 -- What a poll of groups keeps of their invariant.
 use Rattle.std.proofs.Common.{◌≡◌, ◌≢◌, ℕ, zero, suc, ◌+◌, ◌-◌, ◌<◌, ◌≤◌, false, List, [], ◌∷◌, ◌++◌, length, take, drop, set, get_or, Option, IfNone, is_some, refl, sym, ap, subst, arith, length-set, ◌∙◌}
-use Rattle.std.specs.List.{All}
+use Rattle.std.specs.List.{All, FoldsTo}
 use Rattle.std.proofs.lemmas.Bool.Decides.{nat_tests}
 use Rattle.std.proofs.lemmas.List.{get_or-set_same, get_or-set_other, get_or-take, get_or-drop, get_or_append_left, get_or-append_right, length-append, length-take-le, length-drop}
 use Rattle.std.proofs.lemmas.List.Elements.{All-set}
@@ -10,8 +10,10 @@ use Rattle.futures.specs.Task.{Covers, Keeps, Lasting}
 use Rattle.futures.specs.declared.task.context.Context.{Context}
 use Rattle.futures.specs.declared.task.Poll.{Poll}
 use Rattle.futures.specs.declared.task.Poll.TheVariants.{Ready, Pending}
-use Rattle.futures_buffered_core.specs.ReadySource.{WaitsAlike}
-use Rattle.futures_buffered_unordered.specs.FuturesUnorderedBounded.{Bounded, held_in}
+use Rattle.futures_buffered_core.specs.ReadySource.{SourceSteps, WaitsAlike}
+use Rattle.futures_buffered_core.specs.SlotMap.{Slots}
+use Rattle.futures_buffered_table.specs.declared.answer.Taken.{Taken}
+use Rattle.futures_buffered_unordered.specs.FuturesUnorderedBounded.{Asks, Bounded, held_in}
 use Rattle.futures_buffered_unordered.specs.Groups.{Groups}
 use Rattle.futures_buffered_unordered.specs.GroupsStep.{next_place}
 use Rattle.futures_buffered_unordered.proofs.GroupsStepLemmas.{All-removed, from_none}
@@ -49,6 +51,16 @@ module _ {S : Type 0} (needs : S → ℕ → Type 0) where
 
   covers_alike : (cx : Context) (a b : S) → WaitsAlike needs a b → Covers cx (needs b) → Covers cx (needs a)
   covers_alike cx a b w h = (h.0, λ n x. h.1 n ((w n).0 x))
+
+module _ {F A S : Type 0} (needs : S → ℕ → Type 0) (polled : ℕ → F → Poll A → F → Type 0) (steps : SourceSteps S)
+    (register_waits : (old new : S) → steps.registers old new → WaitsAlike needs old new) (take_waits : (old : S) (taken : Taken) (new : S) → steps.takes old taken new → WaitsAlike needs old new) where
+  alike_taken : (given : List Taken) (old new : S) → FoldsTo steps.takes old given new → WaitsAlike needs old new
+  alike_taken [] old new h = subst (WaitsAlike needs old) h (alike_self needs old)
+  alike_taken (taken ∷ given) old new h = alike_on needs old h.0 new (take_waits old taken h.0 h.1) (alike_taken given h.0 new h.2)
+
+  -- one round leaves the source at the same places
+  pub alike_asked : (old : Bounded F S) (names : List ℕ) (last : Option Taken) (slots : Slots F) (source : S) → Asks polled steps old names last slots source → WaitsAlike needs old.source source
+  alike_asked old names last slots source asks = alike_on needs old.source asks.registered source (register_waits _ _ asks.registers_first) (alike_taken _ _ _ asks.answers)
 
 -- a task that is registered with each group is registered with one of them
 pub covered_at : {F S : Type 0} (needs : S → ℕ → Type 0) (cx : Context) (gs : List (Bounded F S)) (q : ℕ) (group : Bounded F S) → group ≡ get_or gs q group → q < length gs → EachCovered needs cx gs → Covers cx (needs group.source)
@@ -107,23 +119,6 @@ module _ {F S : Type 0} (needs : S → ℕ → Type 0) where
         (λ j d lt. All-set (λ (b : Bounded F S). WaitsAlike needs (get_or gs j d).source b.source) gs q left (to_left alike j d lt) (alike j d lt))
 
   module _ {A : Type 0} (g : Groups (Bounded F S)) (limit held q : ℕ) (group left : Bounded F S) (answer : Poll (Option A)) (k : KeepsGroups needs g limit held) (here : q ≡ next_place g) (within : q < length g.listed) (is : group ≡ get_or g.listed q group) (kept : KeepsGroup needs group answer left) where
-    -- what is held now, by the numbers that were counted before and after
-    pub counts_asked : (now before after : ℕ) → before ≡ held_in group → after ≡ held_in left → now ≡ held - (before - after) → now + (held_in group - held_in left) ≡ held
-    counts_asked now before after before_is after_is now_is = omega (arith, before_is, after_is, now_is, k.counted, get_or-le-sum_by held_in g.listed q group within, ap (λ (b : Bounded F S). held_in b) is, kept.fewer)
-
-    -- once the group at the place was asked, that is the place
-    pub keeps_asked : (now : ℕ) → now + (held_in group - held_in left) ≡ held → KeepsGroups needs (record { listed = set g.listed q left; place = q }) limit now
-    keeps_asked now counts =
-        record {
-          place_within = omega (arith, within, length-set g.listed q left);
-          some_names = k.some_names;
-          each = each_set g.listed limit q group left within is kept.same_kind k.each;
-          alike = alike_set g.listed limit q group left within is kept.same_kind k.alike;
-          others = λ j d lt other. subst (λ (b : Bounded F S). 0 < held_in b) (sym (get_or-set_other g.listed q j left d other)) (k.others j d (omega (arith, lt, length-set g.listed q left)) (other_place g q j here k.place_within (omega (arith, lt, length-set g.listed q left)) other));
-          counted = omega (arith, counts, k.counted, sum_by-set held_in g.listed q left group within, ap (λ (b : Bounded F S). held_in b) is, kept.fewer);
-          few = omega (arith, counts, k.few);
-        }
-
     within_left : q < length (set g.listed q left)
     within_left = omega (arith, within, length-set g.listed q left)
 
@@ -135,19 +130,37 @@ module _ {F S : Type 0} (needs : S → ℕ → Type 0) where
     pub still_asked : (old new : Context) → Keeps old new → EachCovered needs old g.listed → EachCovered needs new (set g.listed q left)
     still_asked old new keeps covered = covered_asked new (covers_alike needs new left.source group.source (alike_back needs group.source left.source kept.same_kind.waits) (covers_on needs old new group.source keeps (covered_at needs old g.listed q group is within covered)))
 
-    -- the ways on, by the answer
-    pub keeps_pending : (now : ℕ) → now + (held_in group - held_in left) ≡ held → answer ≡ Pending → KeepsGroups needs (record { listed = set g.listed q left; place = q + 1 }) limit now
-    keeps_pending now counts e =
-        keeps_behind (set g.listed q left) limit now q (keeps_asked now counts) within_left left (rw (get_or-set_same g.listed q left left within) (subst (λ (a : Poll (Option A)). OnPending a (0 < held_in left)) e kept.pending_holds))
+    module _ (now before after : ℕ) (before_is : before ≡ held_in group) (after_is : after ≡ held_in left) (now_is : now ≡ held - (before - after)) where
+      -- what is held now, by the numbers that were counted before and after
+      counts : now + (held_in group - held_in left) ≡ held
+      counts = omega (arith, before_is, after_is, now_is, k.counted, get_or-le-sum_by held_in g.listed q group within, ap (λ (b : Bounded F S). held_in b) is, kept.fewer)
 
-    pub keeps_ended_last : (now : ℕ) → now + (held_in group - held_in left) ≡ held → q + 1 ≡ length g.listed → KeepsGroups needs (record { listed = set g.listed q left; place = 0 }) limit now
-    keeps_ended_last now counts last =
-        keeps_last (set g.listed q left) limit now q (keeps_asked now counts) within_left (omega (arith, last, length-set g.listed q left))
+      -- once the group at the place was asked, that is the place
+      pub keeps_asked : KeepsGroups needs (record { listed = set g.listed q left; place = q }) limit now
+      keeps_asked =
+          record {
+            place_within = omega (arith, within, length-set g.listed q left);
+            some_names = k.some_names;
+            each = each_set g.listed limit q group left within is kept.same_kind k.each;
+            alike = alike_set g.listed limit q group left within is kept.same_kind k.alike;
+            others = λ j d lt other. subst (λ (b : Bounded F S). 0 < held_in b) (sym (get_or-set_other g.listed q j left d other)) (k.others j d (omega (arith, lt, length-set g.listed q left)) (other_place g q j here k.place_within (omega (arith, lt, length-set g.listed q left)) other));
+            counted = omega (arith, counts, k.counted, sum_by-set held_in g.listed q left group within, ap (λ (b : Bounded F S). held_in b) is, kept.fewer);
+            few = omega (arith, counts, k.few);
+          }
 
-    pub keeps_ended : (now : ℕ) → now + (held_in group - held_in left) ≡ held → (o : Option A) (removed : List (Bounded F S)) → answer ≡ Ready o → is_some o ≡ false → q + 1 ≢ length g.listed → removed ≡ take q (set g.listed q left) ++ drop (q + 1) (set g.listed q left)
-        → KeepsGroups needs (record { listed = removed; place = q }) limit now
-    keeps_ended now counts o removed e none more without =
-        let is_end = e ∙ ap Ready (from_none o none) in
-        let empty : held_in left ≡ 0 = subst (λ (a : Poll (Option A)). IfReady a (λ p. IfNone p (held_in left ≡ 0))) is_end kept.ended_is_empty in
-        let other : q + 1 ≢ length (set g.listed q left) = λ h. more (h ∙ length-set g.listed q left) in
-        rw without (keeps_left (set g.listed q left) limit now q (keeps_asked now counts) within_left left (rw (get_or-set_same g.listed q left left within) empty) other)
+      -- the ways on, by the answer
+      pub keeps_pending : answer ≡ Pending → KeepsGroups needs (record { listed = set g.listed q left; place = q + 1 }) limit now
+      keeps_pending e =
+          keeps_behind (set g.listed q left) limit now q (keeps_asked) within_left left (rw (get_or-set_same g.listed q left left within) (subst (λ (a : Poll (Option A)). OnPending a (0 < held_in left)) e kept.pending_holds))
+
+      pub keeps_ended_last : q + 1 ≡ length g.listed → KeepsGroups needs (record { listed = set g.listed q left; place = 0 }) limit now
+      keeps_ended_last last =
+          keeps_last (set g.listed q left) limit now q (keeps_asked) within_left (omega (arith, last, length-set g.listed q left))
+
+      pub keeps_ended : (o : Option A) (removed : List (Bounded F S)) → answer ≡ Ready o → is_some o ≡ false → q + 1 ≢ length g.listed → removed ≡ take q (set g.listed q left) ++ drop (q + 1) (set g.listed q left)
+          → KeepsGroups needs (record { listed = removed; place = q }) limit now
+      keeps_ended o removed e none more without =
+          let is_end = e ∙ ap Ready (from_none o none) in
+          let empty : held_in left ≡ 0 = subst (λ (a : Poll (Option A)). IfReady a (λ p. IfNone p (held_in left ≡ 0))) is_end kept.ended_is_empty in
+          let other : q + 1 ≢ length (set g.listed q left) = λ h. more (h ∙ length-set g.listed q left) in
+          rw without (keeps_left (set g.listed q left) limit now q (keeps_asked) within_left left (rw (get_or-set_same g.listed q left left within) empty) other)

@@ -1,5 +1,5 @@
 -- What a push makes of groups.
-use Rattle.std.proofs.Common.{◌≡◌, ℕ, zero, suc, ◌+◌, ◌-◌, ◌*◌, ◌<◌, ◌≤◌, List, [], ◌∷◌, ◌++◌, length, take, drop, set, get_or, Option, None, is_some, cond, refl, sym, ap, subst, inl, inr, arith, length-set, ◌∙◌}
+use Rattle.std.proofs.Common.{◌≡◌, ℕ, zero, suc, ◌+◌, ◌-◌, ◌*◌, ◌<◌, ◌≤◌, List, [], ◌∷◌, ◌++◌, length, take, drop, set, get_or, Option, None, is_some, cond, ◌⊎◌, refl, sym, ap, subst, inl, inr, arith, length-set, ◌∙◌}
 use Rattle.std.specs.List.{All}
 use Rattle.std.proofs.lemmas.List.{get_or-set_other, get_or_append_left, get_or_push, length_push, drop_all, length-replicate}
 use Rattle.std.proofs.lemmas.List.Elements.{All-push, All-tail}
@@ -15,12 +15,12 @@ use Rattle.futures_buffered_core.specs.SlotMap.{held_count, slot_count}
 use Rattle.futures_buffered_table.specs.declared.answer.TheConstants.{MAX_CAPACITY}
 use Rattle.futures_buffered_table.specs.declared.answer.Woke.{Woke}
 use Rattle.futures_buffered_unordered.specs.FuturesUnorderedBounded.{Bounded, Pushes, IsNewSet, held_in}
-use Rattle.futures_buffered_unordered.specs.Groups.{Groups, outputs_in}
+use Rattle.futures_buffered_unordered.specs.Groups.{Groups}
 use Rattle.futures_buffered_unordered.proofs.GroupsLemmas.{same_parts}
 use Rattle.futures_buffered_unordered.proofs.GroupsStepLemmas.{split_at, split_set}
 use Rattle.futures_buffered_unordered.specs.declared.futures_unordered.TheConstants.{MAX_HELD}
 use Rattle.futures_buffered_unordered.specs.FuturesUnordered.{Growing, GrowingPushes, IsNewGrowing, no_groups, held_in_all, spare_places, next_capacity, AnyNeeds, EachCovered}
-use Rattle.futures_buffered_unordered.specs.FuturesUnorderedInvariant.{IsGroup, KeepsGroups, SameKind, AddsGroup, PushesLast}
+use Rattle.futures_buffered_unordered.specs.FuturesUnorderedInvariant.{IsGroup, KeepsGroups, SameKind, AddsGroup}
 use Rattle.futures_buffered_unordered.proofs.FuturesUnorderedInvariantLemmas.{alike_self, alike_back, each_set, alike_set}
 
 module _ {F S : Type 0} where
@@ -92,17 +92,19 @@ module _ {F S : Type 0} (needs : S → ℕ → Type 0) where
       within : q < length g.listed
       within = omega (arith, last)
 
-module _ {F S : Type 0} (marks : S → ℕ → Woke → S → Type 0) where
+module _ {F S : Type 0} (marks : S → ℕ → Woke → S → Type 0) (made : ℕ → S → Type 0) (first : ℕ) where
   -- a push into the last group, as it stands in the list
   pub pushes_last : (old : Growing F S) (q : ℕ) (group left : Bounded F S) (value : F) → q + 1 ≡ length old.groups.listed → group ≡ get_or old.groups.listed q group → 0 < spare_places old.groups.listed → Pushes marks group value left
-      → PushesLast marks old value (record { groups = record { listed = set old.groups.listed q left; place = old.groups.place }; limit = old.limit })
+      → GrowingPushes marks made first old value (record { groups = record { listed = set old.groups.listed q left; place = old.groups.place }; limit = old.limit })
   pushes_last old q group left value last is some pushed =
       record {
         before = take q old.groups.listed;
         into = group;
         pushed_into = left;
-        stood = split_at old.groups.listed q group within is ∙ ap (λ (l : List (Bounded F S)). take q old.groups.listed ++ group ∷ l) none;
-        has_room = omega (arith, some, spare_last old.groups.listed q group last, ap (λ (b : Bounded F S). held_in b) is, ap (λ (b : Bounded F S). slot_count b.slots) is);
+        goes_into = inl (
+          split_at old.groups.listed q group within is ∙ ap (λ (l : List (Bounded F S)). take q old.groups.listed ++ group ∷ l) none,
+          omega (arith, some, spare_last old.groups.listed q group last, ap (λ (b : Bounded F S). held_in b) is, ap (λ (b : Bounded F S). slot_count b.slots) is),
+        );
         pushed = pushed;
         now_listed = split_set old.groups.listed q left within ∙ ap (λ (l : List (Bounded F S)). take q old.groups.listed ++ left ∷ l) none;
         same_place = refl;
@@ -115,49 +117,38 @@ module _ {F S : Type 0} (marks : S → ℕ → Woke → S → Type 0) where
       none : drop (q + 1) old.groups.listed ≡ []
       none = drop_all (q + 1) old.groups.listed (omega (arith, last))
 
-  module _ (made : ℕ → S → Type 0) (first : ℕ) where
-    -- a push into the last group
-    pub pushes_old : (old new : Growing F S) (value : F) → PushesLast marks old value new → GrowingPushes marks made first old value new
-    pushes_old old new value h =
-        record {
-          before = h.before;
-          into = h.into;
-          pushed_into = h.pushed_into;
-          goes_into = inl (h.stood, h.has_room);
-          pushed = h.pushed;
-          now_listed = h.now_listed;
-          same_place = h.same_place;
-          same_limit = h.same_limit;
-        }
-
-    -- a push into a group that was added
-    pub pushes_new : (old added new : Growing F S) (value : F) → spare_places old.groups.listed ≡ 0 → AddsGroup made (next_capacity first old.groups.listed) old added → PushesLast marks added value new → GrowingPushes marks made first old value new
-    pushes_new old added new value full adds h =
-        let long : length old.groups.listed ≡ length h.before = omega (arith, ap length adds.listed, ap length h.stood, length_push old.groups.listed adds.group, length_push h.before h.into) in
-        let parts = same_parts old.groups.listed h.before (adds.group ∷ []) (h.into ∷ []) long (sym adds.listed ∙ h.stood) in
-        let is_last : adds.group ≡ h.into = ap (λ (l : List (Bounded F S)). get_or l 0 adds.group) parts.1 in
-        record {
-          before = h.before;
-          into = h.into;
-          pushed_into = h.pushed_into;
-          goes_into = inr (parts.0, subst (λ (l : List (Bounded F S)). spare_places l ≡ 0) parts.0 full, subst (λ (l : List (Bounded F S)). IsNewSet made (next_capacity first l) old.limit h.into) parts.0 (subst (IsNewSet made (next_capacity first old.groups.listed) old.limit) is_last adds.is_new));
-          pushed = h.pushed;
-          now_listed = h.now_listed;
-          same_place = h.same_place ∙ adds.same_place;
-          same_limit = h.same_limit ∙ adds.same_limit;
-        }
-
-    -- as many futures as before in groups with an empty one behind, which has a free place
-    pub added_counts : (cap : ℕ) (old new : Growing F S) → AddsGroup made cap old new → (held_in_all new.groups.listed ≡ held_in_all old.groups.listed) × (spare_places new.groups.listed ≡ cap)
-    added_counts cap old new adds =
-        let none = new_holds_none made cap old.limit adds.group adds.is_new in
-        let at_end : get_or (old.groups.listed ++ adds.group ∷ []) (length old.groups.listed) adds.group ≡ adds.group = get_or_push old.groups.listed adds.group adds.group (length old.groups.listed) refl in
-        let spare = spare_last (old.groups.listed ++ adds.group ∷ []) (length old.groups.listed) adds.group (sym (length_push old.groups.listed adds.group)) in (
-          omega (arith, ap (λ (l : List (Bounded F S)). held_in_all l) adds.listed, sum_by_push held_in old.groups.listed adds.group, none.0),
-          omega (arith, ap (λ (l : List (Bounded F S)). spare_places l) adds.listed, spare, ap (λ (b : Bounded F S). held_in b) at_end, ap (λ (b : Bounded F S). slot_count b.slots) at_end, none.0, none.1),
-        )
+  -- a push into a group that was added
+  pub pushes_new : (old added new : Growing F S) (value : F) → spare_places old.groups.listed ≡ 0 → AddsGroup made (next_capacity first old.groups.listed) old added → 0 < spare_places added.groups.listed → GrowingPushes marks made first added value new → GrowingPushes marks made first old value new
+  pushes_new old added new value full adds room h = by_group h.goes_into
+    where
+      by_group : ((added.groups.listed ≡ h.before ++ h.into ∷ []) × (held_in h.into < slot_count h.into.slots)) ⊎ ((added.groups.listed ≡ h.before) × (spare_places h.before ≡ 0) × IsNewSet made (next_capacity first h.before) added.limit h.into) → GrowingPushes marks made first old value new
+      by_group (inr other) = absurd (omega (arith, room, other.1, ap (λ (l : List (Bounded F S)). spare_places l) other.0))
+      by_group (inl last) =
+          let long : length old.groups.listed ≡ length h.before = omega (arith, ap length adds.listed, ap length last.0, length_push old.groups.listed adds.group, length_push h.before h.into) in
+          let parts = same_parts old.groups.listed h.before (adds.group ∷ []) (h.into ∷ []) long (sym adds.listed ∙ last.0) in
+          let is_last : adds.group ≡ h.into = ap (λ (l : List (Bounded F S)). get_or l 0 adds.group) parts.1 in
+          record {
+            before = h.before;
+            into = h.into;
+            pushed_into = h.pushed_into;
+            goes_into = inr (parts.0, subst (λ (l : List (Bounded F S)). spare_places l ≡ 0) parts.0 full, subst (λ (l : List (Bounded F S)). IsNewSet made (next_capacity first l) old.limit h.into) parts.0 (subst (IsNewSet made (next_capacity first old.groups.listed) old.limit) is_last adds.is_new));
+            pushed = h.pushed;
+            now_listed = h.now_listed;
+            same_place = h.same_place ∙ adds.same_place;
+            same_limit = h.same_limit ∙ adds.same_limit;
+          }
 
 module _ {F S : Type 0} (made : ℕ → S → Type 0) where
+  -- as many futures as before in groups with an empty one behind, which has a free place
+  pub added_counts : (cap : ℕ) (old new : Growing F S) → AddsGroup made cap old new → (held_in_all new.groups.listed ≡ held_in_all old.groups.listed) × (spare_places new.groups.listed ≡ cap)
+  added_counts cap old new adds =
+      let none = new_holds_none made cap old.limit adds.group adds.is_new in
+      let at_end : get_or (old.groups.listed ++ adds.group ∷ []) (length old.groups.listed) adds.group ≡ adds.group = get_or_push old.groups.listed adds.group adds.group (length old.groups.listed) refl in
+      let spare = spare_last (old.groups.listed ++ adds.group ∷ []) (length old.groups.listed) adds.group (sym (length_push old.groups.listed adds.group)) in (
+        omega (arith, ap (λ (l : List (Bounded F S)). held_in_all l) adds.listed, sum_by_push held_in old.groups.listed adds.group, none.0),
+        omega (arith, ap (λ (l : List (Bounded F S)). spare_places l) adds.listed, spare, ap (λ (b : Bounded F S). held_in b) at_end, ap (λ (b : Bounded F S). slot_count b.slots) at_end, none.0, none.1),
+      )
+
   -- a new set has the group that was added, if one was
   pub new_without : (n limit : ℕ) (set : Growing F S) → n ≤ 0 → set ≡ no_groups limit → IsNewGrowing made n limit set
   new_without n limit set none is = inl (omega (arith, none), is)
@@ -186,7 +177,7 @@ module _ {F S : Type 0} (needs : S → ℕ → Type 0) (cx : Context) where
   covers_any [] covered some = absurd (omega (arith, some))
   covers_any (g ∷ gs) covered some = ((covered 0 g (omega arith)).0, hears_any (g ∷ gs) covered)
 
-  -- a task that is registered with each group, where one holds a future, hears of what any needs
-  pub covered_of : {A : Type 0} (answer : Poll (Option A)) (old groups : List (Bounded F S)) → OnPending answer (EachCovered needs cx groups) → (held_in_all old ≡ 0 → answer ≡ Ready None) → held_in_all groups + outputs_in answer ≡ held_in_all old → OnPending answer (Covers cx (AnyNeeds needs groups))
-  covered_of (Ready o) old groups covered ends count = tt
-  covered_of Pending old groups covered ends count = covers_any groups covered (grind arith)
+  -- a task that is registered with each group, where one holds a value, hears of what any needs
+  pub covered_of : {A : Type 0} (answer : Poll (Option A)) (groups : List (Bounded F S)) → OnPending answer (EachCovered needs cx groups) → OnPending answer (0 < held_in_all groups) → OnPending answer (Covers cx (AnyNeeds needs groups))
+  covered_of (Ready o) groups covered some = tt
+  covered_of Pending groups covered some = covers_any groups covered some

@@ -1,320 +1,175 @@
--- Going round the groups: those from the place on are asked first, and then those before it.
-use Rattle.std.proofs.Common.{◌≡◌, ◌⊎◌, ℕ, ◌+◌, ◌<◌, ◌≤◌, Bool, true, not, ◌&&◌, ◌||◌, cond, List, [], ◌∷◌, ◌++◌, length, drop, Option, Some, refl, sym, ap, inl, inr, arith, ◌∙◌}
-use Rattle.std.specs.List.{AllZip, AllByRecursion, enumerate_from, list_all}
-use Rattle.std.proofs.lemmas.List.{append_assoc, length-append, length_push}
-use Rattle.std.proofs.lemmas.List.Folds.{list_all-append, list_any-append}
-use Rattle.std.proofs.lemmas.Slice.Zip.{AllZip-long}
+-- Going round the groups: one more of them is asked.
+use Rattle.std.proofs.Common.{◌≡◌, ◌⊎◌, ℕ, ◌+◌, ◌<◌, ◌≤◌, Bool, false, ◌||◌, List, [], ◌∷◌, ◌++◌, length, take, drop, Option, Some, None, refl, sym, ap, inl, inr, arith, append-nil, ◌∙◌}
+use Rattle.std.specs.List.{AllZip, enumerate_from, list_any}
+use Rattle.std.proofs.lemmas.Bool.{cases_lt}
+use Rattle.std.proofs.lemmas.Bool.Decides.{nat_tests}
+use Rattle.std.proofs.lemmas.List.{append_assoc, length-append, length_push, length-take, length-take-le, take_all, take_at, drop_all, drop_at, take-append-drop}
+use Rattle.std.proofs.lemmas.List.Folds.{list_any-append}
+use Rattle.std.proofs.lemmas.List.FromFn.{length-enumerate_from}
 use Rattle.futures.specs.declared.task.Poll.{Poll}
-use Rattle.futures.specs.declared.task.Poll.TheVariants.{Ready}
-use Rattle.futures_buffered_unordered.specs.Groups.{Groups, Turn, NoOutput, is_end, ended, staying, stands_at, place_after, AsksLast, GroupsGive}
-use Rattle.futures_buffered_unordered.specs.GroupsStep.{AsksOne, LeavesBetween, next_place}
-use Rattle.futures_buffered_unordered.proofs.GroupsLemmas.{any_stopped, any_stopped-push, any_stopped-waiting, waiting-not_stopped, NotAsked, GaveNoOutput, TakesTurn, enumerate-append, round-at, each-numbered, each-append, zip-append, waiting, kept, length-waiting, kept-waiting, waiting-not_asked, kept-append, staying-append, staying-before_waiting, kept-push, stands-at, AsksHere, zip-waiting, asks_here, is_pending, behind_last, next_at, next_zero, gone, after_group, after_last}
+use Rattle.futures.specs.declared.task.Poll.TheVariants.{Ready, Pending}
+use Rattle.futures_buffered_unordered.specs.Groups.{Groups, Turn, NoOutput, staying, stands_at, place_after, round_from}
+use Rattle.futures_buffered_unordered.specs.GroupsStep.{LeavesBetween, next_place}
+use Rattle.futures_buffered_unordered.proofs.GroupsLemmas.{enumerate-append, from_no_length, kept, kept-push, next_at, next_zero, parts_of, staying-append, staying-going, staying-some, stands-at}
 
-module _ {X A : Type 0} (asks : Bool → X → Poll (Option A) → X → Type 0) (old : Groups X) where
-  -- the groups from the place on are asked, and one of them is next
-  pub record First (count : ℕ) (pending stopped : Bool) (now : Groups X) : Type 0 where
-    pub before : List X
-    pub asked : List X
-    pub todo : List X
-    pub turns : List (Turn X A)
-    pub old_is : old.listed ≡ before ++ (asked ++ todo)
-    pub begins : (old.place ≡ length before) ⊎ ((length old.listed ≤ old.place) × (before ≡ []))
-    pub each : AllZip (TakesTurn asks) asked turns
-    pub none : AllByRecursion GaveNoOutput turns
-    pub now_is : now.listed ≡ before ++ (kept turns ++ todo)
-    pub some : 0 < length todo
-    pub place : next_place now ≡ length before + length (kept turns)
-    pub counted : length turns ≡ count
-    pub ends : list_all ended turns ≡ not pending
-    pub stops : any_stopped turns ≡ stopped
+-- the first of a numbered list
+pub head_of : {T : Type 0} (n : ℕ) (ts : List T) (x : ℕ × T) (xs : List (ℕ × T)) → enumerate_from n ts ≡ x ∷ xs → (x.0 ≡ n) × (0 < length ts)
+head_of n [] x xs is = grind arith
+head_of {T} n (t ∷ ts) x xs is =
+    let here : ◌≡◌ {A = ℕ × T} x (n, t) = cc in
+    (ap (λ (p : ℕ × T). p.0) here, omega arith)
 
-  -- the last group was asked, and the groups before the place are next
-  pub record Second (count : ℕ) (pending stopped : Bool) (now : Groups X) : Type 0 where
-    pub again : List X
-    pub todo : List X
-    pub asked : List X
-    pub last : X
-    pub left : X
-    pub answer : Poll (Option A)
-    pub again_turns : List (Turn X A)
-    pub turns : List (Turn X A)
-    pub old_is : old.listed ≡ again ++ (todo ++ (asked ++ last ∷ []))
-    pub begins : (old.place ≡ length (again ++ todo)) ⊎ ((length old.listed ≤ old.place) × (again ++ todo ≡ []))
-    pub each_again : AllZip (TakesTurn asks) again again_turns
-    pub each : AllZip (TakesTurn asks) asked turns
-    pub last_stopped : Bool
-    pub last_asked : asks last_stopped last answer left
-    pub none_again : AllByRecursion GaveNoOutput again_turns
-    pub none : AllByRecursion GaveNoOutput turns
-    pub none_last : NoOutput answer
-    pub now_is : now.listed ≡ kept again_turns ++ (todo ++ (kept turns ++ left ∷ []))
-    pub place : ((again_turns ≡ []) × (now.place ≡ behind_last (length now.listed) answer)) ⊎ ((0 < length again_turns) × (now.place ≡ length (kept again_turns)))
-    pub counted : length again_turns + (length turns + 1) ≡ count
-    pub ends : (list_all ended again_turns && (list_all ended turns && is_end (Some answer))) ≡ not pending
-    pub stops : (any_stopped again_turns || (any_stopped turns || last_stopped)) ≡ stopped
+-- the lists before and behind one of a numbered list
+unnumber : {T : Type 0} (n : ℕ) (ts : List T) (before : List (ℕ × T)) (k : ℕ) (t : T) (after : List (ℕ × T)) → enumerate_from n ts ≡ before ++ (k, t) ∷ after
+    → (ps : List T) × (qs : List T) × (ts ≡ ps ++ t ∷ qs) × (k ≡ n + length ps) × (before ≡ enumerate_from n ps) × (after ≡ enumerate_from (k + 1) qs)
+unnumber n [] before k t after is = absurd (omega (arith, ap length is, length-append before ((k, t) ∷ after)))
+unnumber {T} n (u ∷ us) [] k t after is =
+    let here : ◌≡◌ {A = ℕ × T} (n, u) (k, t) = cc in
+    let rest : after ≡ enumerate_from (n + 1) us = cc in
+    let number = ap (λ (p : ℕ × T). p.0) here in
+    ([], us, ap (λ (p : ℕ × T). p.1 ∷ us) here, omega (arith, number), refl, rest ∙ ap (λ (m : ℕ). enumerate_from (m + 1) us) number)
+unnumber {T} n (u ∷ us) (b ∷ before) k t after is =
+    let here : ◌≡◌ {A = ℕ × T} b (n, u) = cc in
+    let rest : enumerate_from (n + 1) us ≡ before ++ (k, t) ∷ after = cc in
+    let it = unnumber (n + 1) us before k t after rest in
+    let front : b ∷ before ≡ (n, u) ∷ enumerate_from (n + 1) it.0 = cc (it.4) in
+    (u ∷ it.0, it.1, ap (λ (l : List T). u ∷ l) it.2, omega (arith, it.3), front, it.5)
 
-  -- the group that was asked last stands from the place on
-  module _ (before later : List X) (turns : List (Turn X A)) (answer : Poll (Option A)) (stops : Bool) (left : X) where
-    abbrev last_turn : Turn X A
-    last_turn = record { answer = Some answer; stopped = stops; left = left }
+renumber : {T : Type 0} (ps qs : List T) (k : ℕ) (t : T) → k ≡ length ps → enumerate_from 0 (ps ++ t ∷ qs) ≡ enumerate_from 0 ps ++ (k, t) ∷ enumerate_from (k + 1) qs
+renumber {T} ps qs k t is =
+    let number : 0 + length ps ≡ k = omega (arith, is) in
+    enumerate-append 0 ps (t ∷ qs) ∙ ap (λ (m : ℕ). enumerate_from 0 ps ++ enumerate_from m (t ∷ qs)) number
 
-    abbrev pub first_turns : List (Turn X A)
-    first_turns = waiting before ++ (turns ++ last_turn ∷ waiting later)
+round_parts : {Y : Type 0} (place : ℕ) (ps qs : List Y) → (length ps ≡ place) ⊎ ((length ps ≤ place) × (qs ≡ [])) → round_from place (ps ++ qs) ≡ qs ++ ps
+round_parts place ps qs (inl e) = rw (take_at ps qs place e, drop_at ps qs place e) refl
+round_parts place ps qs (inr h) = rw (h.1, append-nil ps, take_all place ps h.0, drop_all place ps h.0) refl
 
-    pub last_in_first : (stopped : Bool) (new : Groups X) → AllZip (TakesTurn asks) old.listed first_turns → (old.place ≡ length before) ⊎ ((length old.listed ≤ old.place) × (before ≡ [])) → AllByRecursion GaveNoOutput turns
-        → staying (last_turn ∷ waiting later) ≡ left ∷ later → new.listed ≡ (before ++ kept turns) ++ left ∷ later
-        → (stands_at first_turns (length before + length turns) ≡ length (before ++ kept turns) → new.place ≡ place_after first_turns (length before + length turns) answer)
-        → (any_stopped turns || stops) ≡ stopped
-        → AsksLast asks old first_turns answer (enumerate_from (length before + length turns + 1) (waiting later) ++ enumerate_from 0 (waiting before)) stopped new
-    last_in_first stopped new each begins none stays leaves goes_on stops_is =
-        let long = AllZip-long (TakesTurn asks) old.listed first_turns each in
-        let before_long = length-waiting A before in
-        let parts = append_assoc (waiting before) turns (last_turn ∷ waiting later) in
-        let front = waiting before ++ turns in
-        let front_long = length-append (waiting {A = A} before) turns in
-        let kept_front : kept front ≡ before ++ kept turns = kept-append (waiting before) turns ∙ ap (λ (l : List X). l ++ kept turns) (kept-waiting A before) in
-        let begins_at : (old.place ≡ length (waiting {A = A} before)) ⊎ ((length first_turns ≤ old.place) × (waiting {A = A} before ≡ [])) = elim begins [ inl e ↦ inl (omega (arith, e, before_long)) | inr h ↦ inr (omega (arith, long, h.0), ap (waiting {A = A}) h.1) ] in
-        let stands : stands_at first_turns (length before + length turns) ≡ length (before ++ kept turns) = let at = stands-at front (last_turn ∷ waiting later) in grind arith in
+-- The turn `w` with number `k` is met on the way round, after those that were asked: where it stands in the list, what
+-- the way is with another turn in its place, and where the next one stands.
+pub record Spot {T : Type 0} (place : ℕ) (turns : List T) (asked : List (ℕ × T)) (k : ℕ) (w : T) (rest : List (ℕ × T)) : Type 0 where
+  pub ps : List T
+  pub qs : List T
+  pub turns_is : turns ≡ ps ++ w ∷ qs
+  pub k_is : k ≡ length ps
+  pub again : (t : T) → round_from place (enumerate_from 0 (ps ++ t ∷ qs)) ≡ asked ++ (k, t) ∷ rest
+  pub follows : (x : ℕ × T) (more : List (ℕ × T)) → rest ≡ x ∷ more → ((x.0 ≡ k + 1) × (0 < length qs)) ⊎ ((x.0 ≡ 0) × (qs ≡ []))
+
+pub spot : {T : Type 0} (place : ℕ) (turns : List T) (asked : List (ℕ × T)) (k : ℕ) (w : T) (rest : List (ℕ × T)) → round_from place (enumerate_from 0 turns) ≡ asked ++ (k, w) ∷ rest → Spot place turns asked k w rest
+spot {T} place turns asked k w rest is = elim (parts_of back front asked rest (k, w) is) [ inl h ↦ in_back h.0 h.1 h.2 | inr h ↦ in_front h.0 h.1 h.2 ]
+  where
+    numbered : List (ℕ × T)
+    numbered = enumerate_from 0 turns
+
+    front : List (ℕ × T)
+    front = take place numbered
+
+    back : List (ℕ × T)
+    back = drop place numbered
+
+    whole : numbered ≡ front ++ back
+    whole = sym (take-append-drop place numbered)
+
+    front_long : (length front ≡ place) ⊎ ((length front ≤ place) × (back ≡ []))
+    front_long = elim (cases_lt place (length numbered)) [ inl below ↦ inl (length-take-le place numbered (omega (arith, below))) | inr past ↦ inr (omega (arith, length-take place numbered), drop_all place numbered past) ]
+
+    follow_back : (ps qs : List T) (us : List (ℕ × T)) (x : ℕ × T) (more : List (ℕ × T)) → front ++ asked ≡ enumerate_from 0 ps → us ≡ enumerate_from (k + 1) qs → us ++ front ≡ x ∷ more → ((x.0 ≡ k + 1) × (0 < length qs)) ⊎ ((x.0 ≡ 0) × (qs ≡ []))
+    follow_back ps qs [] x more before after e =
+        inr ((head_of 0 ps x (more ++ asked) (sym before ∙ ap (λ (l : List (ℕ × T)). l ++ asked) e)).0, from_no_length qs (omega (arith, ap length after, length-enumerate_from (k + 1) qs)))
+    follow_back ps qs (u ∷ us) x more before after e =
+        let same : u ∷ us ≡ x ∷ us = cc in
+        inl (head_of (k + 1) qs x us (sym after ∙ same))
+
+    in_back : (us : List (ℕ × T)) → back ≡ asked ++ (k, w) ∷ us → rest ≡ us ++ front → Spot place turns asked k w rest
+    in_back us back_is rest_is =
+        let it = unnumber 0 turns (front ++ asked) k w us (whole ∙ ap (λ (l : List (ℕ × T)). front ++ l) back_is ∙ sym (append_assoc front asked ((k, w) ∷ us))) in
+        let some : 0 < length back = omega (arith, ap length back_is, length-append asked ((k, w) ∷ us)) in
+        let long : length front ≡ place = elim front_long [ inl e ↦ e | inr h ↦ absurd (omega (arith, some, ap length h.1)) ] in
         record {
-          each = each;
-          asked_before = enumerate_from (length before) turns;
-          k = length before + length turns;
-          last_stopped = stops;
-          left = left;
-          in_order =
-              let round = round-at old.place (waiting before) (turns ++ last_turn ∷ waiting later) begins_at in
-              let numbered = enumerate-append (length before) turns (last_turn ∷ waiting later) in
-              grind (arith, append_assoc);
-          no_output_before = each-numbered GaveNoOutput (length before) turns none;
-          none_asked_after = each-append _ (enumerate_from (length before + length turns + 1) (waiting later)) (enumerate_from 0 (waiting before)) (each-numbered NotAsked _ (waiting later) (waiting-not_asked A later)) (each-numbered NotAsked 0 (waiting before) (waiting-not_asked A before));
-          leaves = let stay = staying-append front last_turn (waiting later) in grind arith;
-          goes_on = goes_on stands;
-          stops =
-              let all = list_any-append (λ (t : Turn X A). t.stopped) (waiting before) (turns ++ last_turn ∷ waiting later) in
-              let none_before = waiting-not_stopped A before in
-              let rest = any_stopped-waiting turns last_turn later in
-              grind arith;
+          ps = it.0;
+          qs = it.1;
+          turns_is = it.2;
+          k_is = omega (arith, it.3);
+          again = λ t.
+              let numbers = renumber it.0 it.1 k t (omega (arith, it.3)) ∙ ap (λ (l : List (ℕ × T)). l ++ (k, t) ∷ enumerate_from (k + 1) it.1) (sym it.4) ∙ ap (λ (l : List (ℕ × T)). (front ++ asked) ++ (k, t) ∷ l) (sym it.5) ∙ append_assoc front asked ((k, t) ∷ us) in
+              ap (round_from place) numbers ∙ round_parts place front (asked ++ (k, t) ∷ us) (inl long) ∙ append_assoc asked ((k, t) ∷ us) front ∙ ap (λ (l : List (ℕ × T)). asked ++ (k, t) ∷ l) (sym rest_is);
+          follows = λ x more e. follow_back it.0 it.1 us x more it.4 it.5 (sym rest_is ∙ e);
         }
 
-  -- an output before the end of the list is come to
-  pub first_output : (count : ℕ) (pending stopped stops : Bool) (now new : Groups X) (x : A) → First count pending stopped now → AsksOne (asks stops) now (Ready (Some x)) new → GroupsGive asks old (Ready (Some x)) (stopped || stops) new
-  first_output count pending stopped stops now new x so one =
-      let here = asks_here (asks stops) now new (Ready (Some x)) (so.before ++ kept so.turns) so.todo one (so.now_is ∙ sym (append_assoc so.before (kept so.turns) so.todo)) (so.place ∙ sym (length-append so.before (kept so.turns))) in
-      let old_is = so.old_is ∙ ap (λ (l : List X). so.before ++ (so.asked ++ l)) here.rest_is in
-      let each = zip-append (TakesTurn asks) so.before (waiting so.before) _ _ (zip-waiting asks so.before) (zip-append (TakesTurn asks) so.asked so.turns _ _ so.each (here.asked, zip-waiting asks here.later)) in
-      (_, _, last_in_first so.before here.later so.turns (Ready (Some x)) stops here.left (stopped || stops) new (rw old_is each) so.begins so.none (staying-before_waiting (record { answer = Some (Ready (Some x)); stopped = stops; left = here.left }) here.later refl) here.leaves.0 (λ stands. here.leaves.1 ∙ sym stands) (ap (λ (b : Bool). b || stops) so.stops))
-
-  -- the group that is asked next, behind those that were asked a second time round
-  pub second_place : (count : ℕ) (pending stopped : Bool) (now : Groups X) → (so : Second count pending stopped now) → next_place now ≡ length (kept so.again_turns)
-  second_place count pending stopped now so =
-      elim so.place [
-        | inl h ↦ let behind : (length now.listed ≤ now.place) ⊎ (now.place ≡ 0) = grind arith in next_zero now behind ∙ ap length (ap kept (sym h.0))
-        | inr h ↦ next_at now (length (kept so.again_turns)) h.1 (omega (arith, ap length so.now_is, length-append (kept so.again_turns) (so.todo ++ (kept so.turns ++ so.left ∷ [])), length-append so.todo (kept so.turns ++ so.left ∷ []), length_push (kept so.turns) so.left))
-      ]
-
-  pub second_some : (count : ℕ) (pending stopped : Bool) (now : Groups X) → (so : Second count pending stopped now) → count < length old.listed → 0 < length so.todo
-  second_some count pending stopped now so more =
-      omega (
-        arith,
-        more,
-        so.counted,
-        ap length so.old_is,
-        length-append so.again (so.todo ++ (so.asked ++ so.last ∷ [])),
-        length-append so.todo (so.asked ++ so.last ∷ []),
-        length_push so.asked so.last,
-        AllZip-long (TakesTurn asks) so.again so.again_turns so.each_again,
-        AllZip-long (TakesTurn asks) so.asked so.turns so.each,
-      )
-
-  pub first_of : (xs ys : List X) (z : X) (zs : List X) → 0 < length xs → xs ++ ys ≡ z ∷ zs → (xs ≡ z ∷ drop 1 xs) × (zs ≡ drop 1 xs ++ ys)
-  first_of xs ys z zs some e = grind arith
-
-  -- the last of the list was asked, and the group that was asked last stands before the place
-  module _ (count : ℕ) (pending stopped_before : Bool) (now : Groups X) (so : Second count pending stopped_before now) (groups later : List X) (turns : List (Turn X A)) (answer : Poll (Option A)) (stops : Bool) (left : X) where
-    abbrev again_turns : List (Turn X A)
-    again_turns = turns ++ record { answer = Some answer; stopped = stops; left = left } ∷ waiting later
-
-    abbrev round_turns : List (Turn X A)
-    round_turns = so.turns ++ record { answer = Some so.answer; stopped = so.last_stopped; left = so.left } ∷ []
-
-    pub last_in_second : (stopped : Bool) (new : Groups X) → old.listed ≡ groups ++ (so.asked ++ so.last ∷ []) → old.place ≡ length groups → AllZip (TakesTurn asks) groups again_turns → AllByRecursion GaveNoOutput turns
-        → new.listed ≡ kept turns ++ (gone answer left ++ (later ++ (kept so.turns ++ so.left ∷ [])))
-        → (stands_at (again_turns ++ round_turns) (length turns) ≡ length (kept turns) → new.place ≡ place_after (again_turns ++ round_turns) (length turns) answer)
-        → ((any_stopped turns || stops) || (any_stopped so.turns || so.last_stopped)) ≡ stopped
-        → AsksLast asks old (again_turns ++ round_turns) answer (enumerate_from (length turns + 1) (waiting later)) stopped new
-    last_in_second stopped new old_is place each none leaves goes_on stops_is =
-        let turn : Turn X A = record { answer = Some answer; stopped = stops; left = left } in
-        let last_turn : Turn X A = record { answer = Some so.answer; stopped = so.last_stopped; left = so.left } in
-        let long = AllZip-long (TakesTurn asks) groups again_turns each in
-        let parts = append_assoc turns (turn ∷ waiting later) round_turns in
-        let stands : stands_at (again_turns ++ round_turns) (length turns) ≡ length (kept turns) = let at = stands-at turns (turn ∷ (waiting later ++ round_turns)) in grind arith in
+    in_front : (us : List (ℕ × T)) → asked ≡ back ++ us → front ≡ us ++ (k, w) ∷ rest → Spot place turns asked k w rest
+    in_front us asked_is front_is =
+        let it = unnumber 0 turns us k w (rest ++ back) (whole ∙ ap (λ (l : List (ℕ × T)). l ++ back) front_is ∙ append_assoc us ((k, w) ∷ rest) back) in
         record {
-          each = rw old_is (zip-append (TakesTurn asks) groups again_turns _ _ each (zip-append (TakesTurn asks) so.asked so.turns (so.last ∷ []) (last_turn ∷ []) so.each (so.last_asked, tt)));
-          asked_before = enumerate_from (length groups) round_turns ++ enumerate_from 0 turns;
-          k = length turns;
-          last_stopped = stops;
-          left = left;
-          in_order =
-              let round = round-at old.place again_turns round_turns (inl (omega (arith, place, long))) in
-              let numbered = enumerate-append 0 turns (turn ∷ waiting later) in
-              grind (arith, append_assoc);
-          no_output_before = each-append _ (enumerate_from (length groups) round_turns) (enumerate_from 0 turns) (each-numbered GaveNoOutput _ round_turns (each-append GaveNoOutput so.turns (last_turn ∷ []) so.none (so.none_last, tt))) (each-numbered GaveNoOutput 0 turns none);
-          none_asked_after = each-numbered NotAsked _ (waiting later) (waiting-not_asked A later);
-          leaves =
-              let all = append_assoc again_turns so.turns (last_turn ∷ []) in
-              let stay = staying-append (again_turns ++ so.turns) last_turn [] in
-              let kept_all = kept-append again_turns so.turns in
-              let kept_again = kept-append turns (turn ∷ waiting later) in
-              let kept_later = kept-waiting A later in
-              grind (arith, append_assoc);
-          goes_on = goes_on stands;
-          stops =
-              let all = list_any-append (λ (t : Turn X A). t.stopped) again_turns round_turns in
-              let again = any_stopped-waiting turns turn later in
-              let round = any_stopped-push so.turns last_turn in
-              grind arith;
+          ps = it.0;
+          qs = it.1;
+          turns_is = it.2;
+          k_is = omega (arith, it.3);
+          again = λ t.
+              let numbers = renumber it.0 it.1 k t (omega (arith, it.3)) ∙ ap (λ (l : List (ℕ × T)). l ++ (k, t) ∷ enumerate_from (k + 1) it.1) (sym it.4) ∙ ap (λ (l : List (ℕ × T)). us ++ (k, t) ∷ l) (sym it.5) ∙ sym (append_assoc us ((k, t) ∷ rest) back) in
+              let long : length (us ++ (k, t) ∷ rest) ≡ length front = omega (arith, ap length front_is, length-append us ((k, t) ∷ rest), length-append us ((k, w) ∷ rest)) in
+              ap (round_from place) numbers ∙ round_parts place (us ++ (k, t) ∷ rest) back (rw long front_long) ∙ sym (append_assoc back us ((k, t) ∷ rest)) ∙ ap (λ (l : List (ℕ × T)). l ++ (k, t) ∷ rest) (sym asked_is);
+          follows = λ x more e. inl (head_of (k + 1) it.1 x (more ++ back) (sym it.5 ∙ ap (λ (l : List (ℕ × T)). l ++ back) e));
         }
 
-  -- an output after the end of the list was come to
-  pub second_output : (count : ℕ) (pending stopped stops : Bool) (now new : Groups X) (x : A) → (so : Second count pending stopped now) → count < length old.listed → AsksOne (asks stops) now (Ready (Some x)) new → GroupsGive asks old (Ready (Some x)) (stopped || stops) new
-  second_output count pending stopped stops now new x so more one =
-      let rest = kept so.turns ++ so.left ∷ [] in
-      let here = asks_here (asks stops) now new (Ready (Some x)) (kept so.again_turns) (so.todo ++ rest) one so.now_is (second_place count pending stopped now so) in
-      let todo_some = second_some count pending stopped now so more in
-      let split = first_of so.todo rest here.group here.later todo_some here.rest_is in
-      let later = drop 1 so.todo in
-      let old_is : old.listed ≡ (so.again ++ here.group ∷ later) ++ (so.asked ++ so.last ∷ []) = so.old_is ∙ ap (λ (l : List X). so.again ++ (l ++ (so.asked ++ so.last ∷ []))) split.0 ∙ sym (append_assoc so.again (here.group ∷ later) (so.asked ++ so.last ∷ [])) in
-      let place : old.place ≡ length (so.again ++ here.group ∷ later) = elim so.begins [ inl e ↦ e ∙ ap (λ (l : List X). length (so.again ++ l)) split.0 | inr h ↦ absurd (omega (arith, ap length h.1, length-append so.again so.todo, todo_some)) ] in
-      let stopped_so = so.stops in
-      (_, _, last_in_second count pending stopped now so (so.again ++ here.group ∷ later) later so.again_turns (Ready (Some x)) stops here.left (stopped || stops) new old_is place (zip-append (TakesTurn asks) so.again so.again_turns _ _ so.each_again (here.asked, zip-waiting asks later)) so.none_again (here.leaves.0 ∙ ap (λ (l : List X). kept so.again_turns ++ here.left ∷ l) split.1) (λ stands. here.leaves.1 ∙ sym stands) (grind arith))
+-- one turn in the place of another
+pub zip-replaced : {X Y : Type 0} (R : X → Y → Type 0) (xs : List X) (ps : List Y) (y : Y) (qs : List Y) → AllZip R xs (ps ++ y ∷ qs) → (x : X) × R x y × ((z : Y) → R x z → AllZip R xs (ps ++ z ∷ qs))
+zip-replaced R (x ∷ xs) [] y qs zip = (x, zip.0, λ z r. (r, zip.1))
+zip-replaced R (x ∷ xs) (p ∷ ps) y qs zip = let rest = zip-replaced R xs ps y qs zip.1 in (rest.0, rest.1, λ z r. (zip.0, rest.2 z r))
+zip-replaced R [] [] y qs zip = absurd zip
+zip-replaced R [] (p ∷ ps) y qs zip = absurd zip
 
-  pub list_all-push : (turns : List (Turn X A)) (turn : Turn X A) → list_all ended (turns ++ turn ∷ []) ≡ (list_all ended turns && ended turn)
-  list_all-push turns turn = let parts = list_all-append ended turns (turn ∷ []) in grind arith
+pub any_replaced : {T : Type 0} (f : T → Bool) (ps qs : List T) (w t : T) → f w ≡ false → list_any f (ps ++ t ∷ qs) ≡ (list_any f (ps ++ w ∷ qs) || f t)
+any_replaced f ps qs w t none =
+    let now = list_any-append f ps (t ∷ qs) in
+    let before = list_any-append f ps (w ∷ qs) in
+    grind arith
 
-  -- one more group, before the end of the list is come to
-  pub first_step : (count : ℕ) (pending stopped stops : Bool) (now new : Groups X) (answer : Poll (Option A)) → NoOutput answer → (so : First count pending stopped now) → AsksOne (asks stops) now answer new
-      → First (count + 1) (cond pending true (is_pending answer)) (stopped || stops) new ⊎ Second (count + 1) (cond pending true (is_pending answer)) (stopped || stops) new
-  first_step count pending stopped stops now new answer no_output so one = by_later here.later here.rest_is here.leaves
-    where
-      earlier : List X
-      earlier = so.before ++ kept so.turns
+leaves_some : {X : Type 0} (A : Type 0) (earlier later : List X) (left : X) (new : Groups X) → 0 < length later → LeavesBetween {A = A} earlier later left (Ready None) new → (new.listed ≡ earlier ++ later) × (new.place ≡ length earlier)
+leaves_some A earlier later left new some h = grind arith
 
-      here : AsksHere (asks stops) earlier so.todo answer new
-      here = asks_here (asks stops) now new answer earlier so.todo one (so.now_is ∙ sym (append_assoc so.before (kept so.turns) so.todo)) (so.place ∙ sym (length-append so.before (kept so.turns)))
+module _ {X A : Type 0} where
+  module _ (ps : List (Turn X A)) (stops : Bool) (left : X) (new : Groups X) where
+    abbrev turn_of : Poll (Option A) → Turn X A
+    turn_of answer = record { answer = Some answer; stopped = stops; left = left }
 
-      turn : Turn X A
-      turn = record { answer = Some answer; stopped = stops; left = here.left }
+    -- what a turn leaves of the list, and where the next poll begins
+    pub leaves_staying : (qs : List (Turn X A)) (answer : Poll (Option A)) → LeavesBetween (kept ps) (staying qs) left answer new → (new.listed ≡ staying (ps ++ turn_of answer ∷ qs)) × (new.place ≡ place_after (ps ++ turn_of answer ∷ qs) (length ps) answer)
+    leaves_staying qs (Ready (Some x)) h =
+        let t = turn_of (Ready (Some x)) in
+        (h.0 ∙ sym (staying-append ps t qs ∙ ap (λ (l : List X). kept ps ++ l) (staying-going t qs refl)), h.1 ∙ sym (stands-at ps (t ∷ qs)))
+    leaves_staying qs Pending h =
+        let t = turn_of Pending in
+        (h.0 ∙ sym (staying-append ps t qs ∙ ap (λ (l : List X). kept ps ++ l) (staying-going t qs refl)), h.1 ∙ ap (λ (n : ℕ). n + 1) (sym (stands-at ps (t ∷ qs))))
+    leaves_staying [] (Ready None) h =
+        let long = length_push ps (turn_of (Ready None)) in
+        (h.0 ∙ sym (staying-append ps (turn_of (Ready None)) []), grind (arith, nat_tests))
+    leaves_staying (q ∷ qs) (Ready None) h =
+        let t = turn_of (Ready None) in
+        let leaves = leaves_some A (kept ps) (staying (q ∷ qs)) left new (staying-some (q ∷ qs) (omega arith)) h in
+        let long = length-append ps (t ∷ q ∷ qs) in
+        let stands = stands-at ps (t ∷ q ∷ qs) in
+        (leaves.0 ∙ sym (staying-append ps t (q ∷ qs)), grind (arith, nat_tests))
 
-      more_ends : (list_all ended so.turns && ended turn) ≡ not (cond pending true (is_pending answer))
-      more_ends = let ends = so.ends in grind arith
-
-      by_later : (later : List X) → so.todo ≡ here.group ∷ later → LeavesBetween earlier later here.left answer new → First (count + 1) (cond pending true (is_pending answer)) (stopped || stops) new ⊎ Second (count + 1) (cond pending true (is_pending answer)) (stopped || stops) new
-      by_later [] is leaves =
-          let left_is = after_last earlier here.left answer new no_output leaves in
-          inr (record {
-            again = [];
-            todo = so.before;
-            asked = so.asked;
-            last = here.group;
-            left = here.left;
-            answer = answer;
-            again_turns = [];
-            turns = so.turns;
-            old_is = so.old_is ∙ ap (λ (l : List X). so.before ++ (so.asked ++ l)) is;
-            begins = so.begins;
-            each_again = tt;
-            each = so.each;
-            last_stopped = stops;
-            last_asked = here.asked;
-            none_again = tt;
-            none = so.none;
-            none_last = no_output;
-            now_is = left_is.0 ∙ append_assoc so.before (kept so.turns) (here.left ∷ []);
-            place = inl (refl, left_is.1);
-            counted = omega (arith, so.counted);
-            ends = more_ends;
-            stops = ap (λ (b : Bool). b || stops) so.stops;
-          })
-      by_later (next ∷ later) is leaves =
-          let left_is = after_group earlier (next ∷ later) here.left answer new (omega arith) no_output leaves in
-          let kept_is = kept-push so.turns turn in
-          let now_is : new.listed ≡ so.before ++ (kept (so.turns ++ turn ∷ []) ++ next ∷ later) = let listed = left_is.0 in grind (arith, append_assoc) in
-          let place_is : new.place ≡ length so.before + length (kept (so.turns ++ turn ∷ [])) = omega (arith, left_is.1, length-append so.before (kept so.turns), ap length kept_is, length-append (kept so.turns) (gone answer here.left)) in
-          inl (record {
-            before = so.before;
-            asked = so.asked ++ here.group ∷ [];
-            todo = next ∷ later;
-            turns = so.turns ++ turn ∷ [];
-            old_is = so.old_is ∙ ap (λ (l : List X). so.before ++ (so.asked ++ l)) is ∙ ap (λ (l : List X). so.before ++ l) (sym (append_assoc so.asked (here.group ∷ []) (next ∷ later)));
-            begins = so.begins;
-            each = zip-append (TakesTurn asks) so.asked so.turns _ _ so.each (here.asked, tt);
-            none = each-append GaveNoOutput so.turns (turn ∷ []) so.none (no_output, tt);
-            now_is = now_is;
-            some = omega arith;
-            place = next_at new _ place_is (omega (arith, ap length now_is, length-append so.before (kept (so.turns ++ turn ∷ []) ++ next ∷ later), length-append (kept (so.turns ++ turn ∷ [])) (next ∷ later)));
-            counted = omega (arith, so.counted, length_push so.turns turn);
-            ends = list_all-push so.turns turn ∙ more_ends;
-            stops = any_stopped-push so.turns turn ∙ ap (λ (b : Bool). b || stops) so.stops;
-          })
-
-  -- one more group, after the end of the list was come to
-  pub second_step : (count : ℕ) (pending stopped stops : Bool) (now new : Groups X) (answer : Poll (Option A)) → NoOutput answer → (so : Second count pending stopped now) → count < length old.listed → AsksOne (asks stops) now answer new
-      → Second (count + 1) (cond pending true (is_pending answer)) (stopped || stops) new
-  second_step count pending stopped stops now new answer no_output so more one =
-      record {
-        again = so.again ++ here.group ∷ [];
-        todo = later;
-        asked = so.asked;
-        last = so.last;
-        left = so.left;
-        answer = so.answer;
-        again_turns = so.again_turns ++ turn ∷ [];
-        turns = so.turns;
-        old_is = so.old_is ∙ ap (λ (l : List X). so.again ++ (l ++ (so.asked ++ so.last ∷ []))) split.0 ∙ sym (append_assoc so.again (here.group ∷ []) (later ++ (so.asked ++ so.last ∷ [])));
-        begins = elim so.begins [ inl e ↦ inl (e ∙ ap length again_is) | inr h ↦ inr (h.0, sym again_is ∙ h.1) ];
-        each_again = zip-append (TakesTurn asks) so.again so.again_turns _ _ so.each_again (here.asked, tt);
-        each = so.each;
-        last_stopped = so.last_stopped;
-        last_asked = so.last_asked;
-        none_again = each-append GaveNoOutput so.again_turns (turn ∷ []) so.none_again (no_output, tt);
-        none = so.none;
-        none_last = so.none_last;
-        now_is = left_is.0 ∙ ap (λ (l : List X). kept so.again_turns ++ (gone answer here.left ++ l)) split.1 ∙ sym (append_assoc (kept so.again_turns) (gone answer here.left) (later ++ rest)) ∙ ap (λ (l : List X). l ++ (later ++ rest)) (sym kept_is);
-        place = inr (omega (arith, length_push so.again_turns turn), left_is.1 ∙ sym (length-append (kept so.again_turns) (gone answer here.left)) ∙ ap length (sym kept_is));
-        counted = omega (arith, so.counted, length_push so.again_turns turn);
-        ends =
-            let more = list_all-push so.again_turns turn in
-            let ended_before = so.ends in
-            grind arith;
-        stops =
-            let more = any_stopped-push so.again_turns turn in
-            let stopped_before = so.stops in
-            grind arith;
-      }
-    where
-      rest : List X
-      rest = kept so.turns ++ so.left ∷ []
-
-      here : AsksHere (asks stops) (kept so.again_turns) (so.todo ++ rest) answer new
-      here = asks_here (asks stops) now new answer (kept so.again_turns) (so.todo ++ rest) one so.now_is (second_place count pending stopped now so)
-
-      later : List X
-      later = drop 1 so.todo
-
-      split : (so.todo ≡ here.group ∷ later) × (here.later ≡ later ++ rest)
-      split = first_of so.todo rest here.group here.later (second_some count pending stopped now so more) here.rest_is
-
-      turn : Turn X A
-      turn = record { answer = Some answer; stopped = stops; left = here.left }
-
-      again_is : so.again ++ so.todo ≡ (so.again ++ here.group ∷ []) ++ later
-      again_is = ap (λ (l : List X). so.again ++ l) split.0 ∙ sym (append_assoc so.again (here.group ∷ []) later)
-
-      some_later : 0 < length here.later
-      some_later = omega (arith, ap length split.1, length-append later rest, length_push (kept so.turns) so.left)
-
-      left_is : (new.listed ≡ kept so.again_turns ++ (gone answer here.left ++ here.later)) × (new.place ≡ length (kept so.again_turns) + length (gone answer here.left))
-      left_is = after_group (kept so.again_turns) here.later here.left answer new some_later no_output here.leaves
-
-      kept_is : kept (so.again_turns ++ turn ∷ []) ≡ kept so.again_turns ++ gone answer here.left
-      kept_is = kept-push so.again_turns turn
+    -- the place of the group that is asked next
+    pub next_after : (qs : List (Turn X A)) (answer : Poll (Option A)) → NoOutput answer → new.listed ≡ staying (ps ++ turn_of answer ∷ qs) → new.place ≡ place_after (ps ++ turn_of answer ∷ qs) (length ps) answer → (n : ℕ) → ((n ≡ length ps + 1) × (0 < length qs)) ⊎ ((n ≡ 0) × (qs ≡ [])) → next_place new ≡ stands_at (ps ++ turn_of answer ∷ qs) n
+    next_after [] answer none listed place n (inl h) = absurd (omega (arith, h.1))
+    next_after (q ∷ qs) answer none listed place n (inl h) =
+        let t = turn_of answer in
+        let front = ps ++ t ∷ [] in
+        let parts : front ++ q ∷ qs ≡ ps ++ t ∷ q ∷ qs = append_assoc ps (t ∷ []) (q ∷ qs) in
+        let long = length_push ps t in
+        let all_long = length-append ps (t ∷ q ∷ qs) in
+        let here = stands-at ps (t ∷ q ∷ qs) in
+        let next : stands_at (ps ++ t ∷ q ∷ qs) n ≡ length (kept front) = rw (h.0, ← long, ← parts) (stands-at front (q ∷ qs)) in
+        let kept_is = ap length (kept-push ps t) ∙ length-append (kept ps) _ in
+        let stay = ap length (listed ∙ ap staying (sym parts) ∙ staying-append front q qs) ∙ length-append (kept front) (staying (q ∷ qs)) in
+        let some = staying-some (q ∷ qs) (omega arith) in
+        let at : new.place ≡ length (kept front) = grind (arith, nat_tests) in
+        next_at new _ at (omega (arith, stay, some)) ∙ sym next
+    next_after (q ∷ qs) answer none listed place n (inr h) = grind arith
+    next_after [] answer none listed place n (inr h) =
+        let t = turn_of answer in
+        let long = length_push ps t in
+        let here = stands-at ps (t ∷ []) in
+        let stay = ap length (listed ∙ staying-append ps t []) ∙ length_push (kept ps) left in
+        let where_at : (length new.listed ≤ new.place) ⊎ (new.place ≡ 0) = grind (arith, nat_tests) in
+        next_zero new where_at ∙ sym (ap (stands_at (ps ++ t ∷ [])) h.0)

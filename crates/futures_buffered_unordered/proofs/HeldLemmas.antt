@@ -7,12 +7,8 @@ use Rattle.futures.specs.declared.task.Poll.TheVariants.{Pending}
 use Rattle.futures_buffered_core.specs.SlotMap.{Slots, Inserts, value_in, held_count, no_slots, with_value}
 use Rattle.futures_buffered_unordered.specs.Held.{AllHeld, AllHeldBut, EndsWith, Passes}
 
-module _ {F A : Type 0} (polled : ℕ → F → Poll A → F → Type 0) where
-  pub passes_free : (m : Slots F) (i : ℕ) → value_in m i ≡ None → Passes polled m i m
-  passes_free m i e = rw e refl
-
-  pub passes_pending : (m : Slots F) (i : ℕ) (f left : F) → value_in m i ≡ Some f → polled i f Pending left → Passes polled m i (with_value m i left)
-  passes_pending m i f left e h = rw e (left, h, refl)
+pub passes_pending : {F A : Type 0} (polled : ℕ → F → Poll A → F → Type 0) (m : Slots F) (i : ℕ) (f left : F) → value_in m i ≡ Some f → polled i f Pending left → Passes polled m i (with_value m i left)
+passes_pending polled m i f left e h = rw e (left, h, refl)
 
 -- no value is held where all slots are free
 pub AllHeld-none : {F : Type 0} (P : F → Type 0) (n : ℕ) → AllHeld P (no_slots n)

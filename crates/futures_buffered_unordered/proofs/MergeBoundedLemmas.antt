@@ -2,7 +2,7 @@
 use Rattle.std.proofs.Common.{◌≡◌, ◌≢◌, ◌⊎◌, ℕ, ◌==◌, ◌<◌, ◌≤◌, cond, is_some, List, [], ◌∷◌, ◌++◌, length, Option, Some, None, MatchOption, IfSome, refl, sym, ap, subst, inl, inr, arith, ◌∙◌}
 use Rattle.std.specs.List.{FoldsTo}
 use Rattle.std.proofs.lemmas.Bool.{cases_eq, cases_lt, eq-eqb, ne_eqb}
-use Rattle.std.proofs.lemmas.List.{get_or-set_other, get_or_past}
+use Rattle.std.proofs.lemmas.List.{get_or-set_other, get_or_past, map-append}
 use Rattle.std.proofs.lemmas.List.Elements.{filter_map-append}
 use Rattle.std.proofs.lemmas.List.Sums.{get_or-le-sum_by}
 use Rattle.futures.specs.Poll.{IfReady, OnPending}
@@ -16,15 +16,15 @@ use Rattle.futures_buffered_unordered.specs.Held.{Passes}
 use Rattle.futures_buffered_unordered.specs.FuturesUnorderedBounded.{Bounded}
 use Rattle.futures_buffered_unordered.proofs.HeldLemmas.{value_in-with_value}
 use Rattle.futures_buffered_unordered.proofs.HeldGivesLemmas.{value_in-with_slot_freed, value_in-with_slot_freed_other}
-use Rattle.futures_buffered_unordered.specs.SlotStream.{items_in, Gave}
+use Rattle.futures_buffered_unordered.specs.SlotStream.{item_of, items_in, Gave}
 use Rattle.futures_buffered_unordered.specs.Merging.{CountEnds, MergeGives}
-use Rattle.futures_buffered_unordered.specs.MergeBounded.{items_at, StreamsGave, ComesFromStreams}
+use Rattle.futures_buffered_unordered.specs.MergeBounded.{items_at, StreamsGave, ComesFromStreams, KeepsOrder}
 use Rattle.futures_buffered_unordered.proofs.SlotStreamLemmas.{gave_none, gave_pending, gave_item, became_none, became_on}
 
-items_here : {A : Type 0} (i : ℕ) (x : A) → items_at i ((i, x) ∷ []) ≡ x ∷ []
+pub items_here : {A : Type 0} (i : ℕ) (x : A) → items_at i ((i, x) ∷ []) ≡ x ∷ []
 items_here i x = rw (eq-eqb i i refl) refl
 
-items_elsewhere : {A : Type 0} (i j : ℕ) (x : A) → j ≢ i → items_at j ((i, x) ∷ []) ≡ []
+pub items_elsewhere : {A : Type 0} (i j : ℕ) (x : A) → j ≢ i → items_at j ((i, x) ∷ []) ≡ []
 items_elsewhere i j x other = rw (ne_eqb i j (λ same. other (sym same))) refl
 
 -- where none is held, no slot holds one
@@ -144,15 +144,18 @@ module _ {F A : Type 0} (polled : ℕ → F → Poll (Option A) → F → Type 0
     pub ended_of : (old new : Bounded F S) → MergeGives polled steps marks old (Ready None) new → Within (ComesFromStreams polled old.slots) (ComesFromStreams polled new.slots)
     ended_of old new h = within_of old.slots new.slots (end_gave old new h).1
 
-    -- many polls
-    one_first : (old mid new : Bounded F S) (answer : Poll (Option A)) (answers : List (Poll (Option A))) → MergeGives polled steps marks old answer mid → (given : List (ℕ × A)) × (items_in answers ≡ seconds given) × StreamsGave polled mid.slots given new.slots
-        → (given : List (ℕ × A)) × (items_in (answer ∷ answers) ≡ seconds given) × StreamsGave polled old.slots given new.slots
-    one_first old mid new (Ready (Some x)) answers h rest =
-        let gave = item_gave old mid x h in
-        ((gave.0, x) ∷ rest.0, ap (λ (l : List A). x ∷ l) rest.1, streams_on old.slots mid.slots new.slots ((gave.0, x) ∷ []) rest.0 gave.1 rest.2)
-    one_first old mid new (Ready None) answers h rest = (rest.0, rest.1, streams_on old.slots mid.slots new.slots [] rest.0 (end_gave old mid h).1 rest.2)
-    one_first old mid new Pending answers h rest = (rest.0, rest.1, streams_on old.slots mid.slots new.slots [] rest.0 (pending_gave old mid h) rest.2)
+    -- the items of one poll
+    pub polled_gave : (old new : Bounded F S) (answer : Poll (Option A)) → MergeGives polled steps marks old answer new → (given : List (ℕ × A)) × (items_in (answer ∷ []) ≡ seconds given) × StreamsGave polled old.slots given new.slots
+    polled_gave old new (Ready (Some x)) h = let gave = item_gave old new x h in ((gave.0, x) ∷ [], refl, gave.1)
+    polled_gave old new (Ready None) h = ([], refl, (end_gave old new h).1)
+    polled_gave old new Pending h = ([], refl, pending_gave old new h)
 
-    pub keeps_order : (old new : Bounded F S) (answers : List (Poll (Option A))) → FoldsTo (MergeGives polled steps marks) old answers new → (given : List (ℕ × A)) × (items_in answers ≡ seconds given) × StreamsGave polled old.slots given new.slots
+    -- many polls
+    pub keeps_order : KeepsOrder polled steps marks
     keeps_order old new [] h = ([], refl, subst (λ (b : Bounded F S). StreamsGave polled old.slots [] b.slots) h (streams_none old.slots))
-    keeps_order old new (answer ∷ answers) h = one_first old h.0 new answer answers h.1 (keeps_order h.0 new answers h.2)
+    keeps_order old new (answer ∷ answers) h =
+        let (given, is, gave) = polled_gave old h.0 answer h.1 in
+        let (more, more_is, rest) = keeps_order h.0 new answers h.2 in
+        let parts = filter_map-append item_of (answer ∷ []) answers in
+        let joined = map-append (λ (p : ℕ × A). p.1) given more in
+        (given ++ more, parts ∙ ap (λ (l : List A). l ++ items_in answers) is ∙ ap (λ (l : List A). seconds given ++ l) more_is ∙ sym joined, streams_on old.slots h.0.slots new.slots given more gave rest)

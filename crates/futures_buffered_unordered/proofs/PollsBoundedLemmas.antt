@@ -14,11 +14,11 @@ use Rattle.futures_buffered_table.specs.declared.answer.Taken.{Taken}
 use Rattle.futures_buffered_table.specs.declared.answer.Taken.TheVariants.{Slot, Empty, Pause}
 use Rattle.futures_buffered_unordered.specs.StreamAnswers.{StreamAnswers}
 use Rattle.futures_buffered_unordered.specs.Held.{AllHeld, ComesFrom, EndsWith, Passes}
-use Rattle.futures_buffered_unordered.specs.FuturesUnorderedBounded.{Bounded, Asks, AsksNone, AsksUntil, EndsWaiting, PollAsks, PollGives, with_source}
+use Rattle.futures_buffered_unordered.specs.FuturesUnorderedBounded.{Bounded, Asks, AsksNone, AsksUntil, EndsWaiting, PollAsks, PollGives, held_in, slots_in, with_empty_slot, with_source}
 use Rattle.futures_buffered_unordered.specs.Groups.{WakesIf}
 use Rattle.futures_buffered_unordered.specs.PollsBounded.{EndsPending, PollOneOf, PollsBounded, ReadySourceOf, RegistersAndTakes, TakesNames}
-use Rattle.futures_buffered_unordered.proofs.HeldLemmas.{AllHeld-with, AllHeldBut-with, count-with, same-with, value_in-with_value, passes_free, passes_pending}
-use Rattle.futures_buffered_unordered.proofs.StreamAnswersLemmas.{after_item, while_pending, covers_fewer}
+use Rattle.futures_buffered_unordered.proofs.HeldLemmas.{AllHeld-with, AllHeldBut-with, count-with, same-with, value_in-with_value, passes_pending}
+use Rattle.futures_buffered_unordered.proofs.StreamAnswersLemmas.{answers_of, covers_fewer}
 use Rattle.futures_buffered_unordered.proofs.FuturesUnorderedBoundedLemmas.{rest_of, same_of, value_of}
 
 module _ {R F W A S : Type 0} (rule : PollOneOf R F W A) (source : ReadySourceOf S W) where
@@ -46,31 +46,27 @@ module _ {R F W A S : Type 0} (rule : PollOneOf R F W A) (source : ReadySourceOf
         capacity = ap slot_count same_slots;
       }
 
-  pub SoFar-skip : (old : Bounded F S) (count i : ℕ) (slots : Slots F) (now left : S) → SoFar old count slots now → source.steps.takes now (Slot i) left → value_in slots i ≡ None → SoFar old (count + 1) slots left
-  SoFar-skip old count i slots now left so taken e =
+  -- one more name, which gave no output
+  SoFar-step : (old : Bounded F S) (count i : ℕ) (slots new : Slots F) (now left : S) → SoFar old count slots now → source.steps.takes now (Slot i) left → Passes rule.polled slots i new → AllHeld rule.can_poll new → held_count new ≡ held_count slots → ((j : ℕ) → is_some (value_in new j) ≡ is_some (value_in slots j)) → slot_count new ≡ slot_count slots
+      → SoFar old (count + 1) new left
+  SoFar-step old count i slots new now left so taken passes pollable held same capacity =
       record {
         names = so.names ++ i ∷ [];
         counted = omega (arith, length_push so.names i, so.counted);
         answers = rw (map_push Slot so.names i) (FoldsTo-push source.steps.takes old.source (map Slot so.names) now (Slot i) left so.answers taken);
-        passes = FoldsTo-push (Passes rule.polled) old.slots so.names slots i slots so.passes (passes_free rule.polled slots i e);
-        pollable = so.pollable;
-        held = so.held;
-        same_slots = so.same_slots;
-        capacity = so.capacity;
+        passes = FoldsTo-push (Passes rule.polled) old.slots so.names slots i new so.passes passes;
+        pollable = pollable;
+        held = held ∙ so.held;
+        same_slots = λ j. same j ∙ so.same_slots j;
+        capacity = capacity ∙ so.capacity;
       }
+
+  pub SoFar-skip : (old : Bounded F S) (count i : ℕ) (slots : Slots F) (now left : S) → SoFar old count slots now → source.steps.takes now (Slot i) left → value_in slots i ≡ None → SoFar old (count + 1) slots left
+  SoFar-skip old count i slots now left so taken e = SoFar-step old count i slots slots now left so taken (rw e refl) so.pollable refl (λ j. refl) refl
 
   pub SoFar-pending : (old : Bounded F S) (count i : ℕ) (slots : Slots F) (now left : S) (f f2 : F) → SoFar old count slots now → source.steps.takes now (Slot i) left → Some f ≡ value_in slots i → rule.polled i f Pending f2 → rule.can_poll f2 → SoFar old (count + 1) (with_value slots i f2) left
   SoFar-pending old count i slots now left f f2 so taken e h again =
-      record {
-        names = so.names ++ i ∷ [];
-        counted = omega (arith, length_push so.names i, so.counted);
-        answers = rw (map_push Slot so.names i) (FoldsTo-push source.steps.takes old.source (map Slot so.names) now (Slot i) left so.answers taken);
-        passes = FoldsTo-push (Passes rule.polled) old.slots so.names slots i (with_value slots i f2) so.passes (passes_pending rule.polled slots i f f2 (sym e) h);
-        pollable = AllHeld-with rule.can_poll slots i f2 so.pollable again;
-        held = count-with slots i f f2 e ∙ so.held;
-        same_slots = λ j. same-with slots i j f f2 e ∙ so.same_slots j;
-        capacity = length-set slots.places i (Some f2) ∙ so.capacity;
-      }
+      SoFar-step old count i slots (with_value slots i f2) now left so taken (passes_pending rule.polled slots i f f2 (sym e) h) (AllHeld-with rule.can_poll slots i f2 so.pollable again) (count-with slots i f f2 e) (λ j. same-with slots i j f f2 e) (length-set slots.places i (Some f2))
 
   module _ (old : Bounded F S) (count limit : ℕ) (slots : Slots F) (now : S) (so : SoFar old count slots now) (same : limit ≡ old.limit) (cx left : Context) where
     -- the value of the slot named last was ready
@@ -152,6 +148,36 @@ takes_after {R} {F} {W} {A} {S} rule source registers before old new answer cx l
       kept = it.kept;
     }
 
+-- from one round of a set that holds a value to a poll
+module _ {R F W A S : Type 0} (rule : PollOneOf R F W A) (source : ReadySourceOf S W) (old new : Bounded F S) (cx left : Context) (some : 0 < held_in old) where
+  pub polls_pending : RegistersAndTakes rule source old Pending new cx left → PollsBounded rule source old Pending new cx left
+  polls_pending asks =
+      let it = asks.takes in
+      record {
+        gave = (some, asks);
+        fewer = tt;
+        same = it.count;
+        capacity = it.capacity;
+        limit = it.limit;
+        covered = it.covered;
+        kept = asks.kept;
+        pollable = it.pollable;
+      }
+
+  pub polls_output : (i : ℕ) (x : A) (before : Bounded F S) → RegistersAndTakes rule source old (Ready (i, x)) before cx left → new ≡ with_empty_slot before i → held_in new + 1 ≡ held_in before → slots_in new ≡ slots_in before → AllHeld rule.can_poll new.slots → PollsBounded rule source old (Ready (Some x)) new cx left
+  polls_output i x before asks emptied fewer capacity pollable =
+      let it = asks.takes in
+      record {
+        gave = (some, (i, before, asks, emptied));
+        fewer = fewer ∙ it.count;
+        same = tt;
+        capacity = capacity ∙ it.capacity;
+        limit = ap (λ (b : Bounded F S). b.limit) emptied ∙ it.limit;
+        covered = tt;
+        kept = asks.kept;
+        pollable = pollable;
+      }
+
 -- What a caller takes from the record of a poll, who speaks of the value alone: the relation of
 -- values, by any registration that this one may be.
 module _ {R F W A S : Type 0} (rule : PollOneOf R F W A) (source : ReadySourceOf S W) (registers : S → S → Type 0) (within : (a b : S) → source.steps.registers a b → registers a b) where
@@ -214,12 +240,4 @@ module _ {R F W A S : Type 0} (rule : PollOneOf R F W A) (source : ReadySourceOf
       → StreamAnswers (record { can_poll = λ (set : Bounded F S). AllHeld rule.can_poll set.slots; needs = λ (set : Bounded F S) n. (0 < held_count set.slots) × source.needs set.source n; yields = λ (set : Bounded F S). ComesFrom rule.polled set.slots }) old answer new cx left
   answers_as_stream old new answer cx left it =
       let gives = gives_of rule source source.steps.registers (λ a b h. h) old new answer cx left it in
-      record {
-        value = value_of rule.polled source.steps old new answer gives;
-        rest = rest_of rule.polled source.steps old new answer gives it.fewer;
-        same = same_of rule.polled source.steps old new answer gives it.same;
-        goes = after_item answer it.pollable;
-        again = while_pending answer it.pollable;
-        registered = covers_fewer answer left (source.needs new.source) _ (λ n waits. waits.1) it.covered;
-        kept = it.kept;
-      }
+      answers_of _ old new answer cx left (value_of rule.polled source.steps old new answer gives) (rest_of rule.polled source.steps old new answer gives it.fewer) (same_of rule.polled source.steps old new answer gives it.same) it.pollable (covers_fewer answer left (source.needs new.source) _ (λ n waits. waits.1) it.covered) it.kept

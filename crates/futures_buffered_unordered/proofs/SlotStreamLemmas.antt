@@ -1,19 +1,11 @@
 -- Polls of one stream, one row behind another.
-use Rattle.std.proofs.Common.{◌≡◌, List, [], ◌∷◌, ◌++◌, Option, Some, None, refl, sym, subst, append-nil}
-use Rattle.std.specs.List.{FoldsTo, AllByRecursion}
+use Rattle.std.proofs.Common.{◌≡◌, List, [], ◌∷◌, ◌++◌, Option, Some, None, refl, sym, append-nil}
 use Rattle.std.proofs.lemmas.List.Elements.{filter_map-append}
 use Rattle.futures.specs.declared.task.Poll.{Poll}
 use Rattle.futures.specs.declared.task.Poll.TheVariants.{Ready, Pending}
+use Rattle.futures_buffered_unordered.specs.FuturesUnorderedBounded.{folds_append}
+use Rattle.futures_buffered_unordered.proofs.GroupsLemmas.{each-append}
 use Rattle.futures_buffered_unordered.specs.SlotStream.{item_of, IsNoEnd, Gave, Became}
-
--- a row of steps behind another
-pub folds_append : {P A : Type 0} (step : P → A → P → Type 0) (xs ys : List A) (p q r : P) → FoldsTo step p xs q → FoldsTo step q ys r → FoldsTo step p (xs ++ ys) r
-folds_append step [] ys p q r first rest = subst (λ s. FoldsTo step s ys r) (sym first) rest
-folds_append step (x ∷ xs) ys p q r first rest = (first.0, first.1, folds_append step xs ys first.0 q r first.2 rest)
-
-every_append : {X : Type 0} (P : X → Type 0) (xs ys : List X) → AllByRecursion P xs → AllByRecursion P ys → AllByRecursion P (xs ++ ys)
-every_append P [] ys first rest = rest
-every_append P (x ∷ xs) ys first rest = (first.0, every_append P xs ys first.1 rest)
 
 module _ {F A : Type 0} (polled : F → Poll (Option A) → F → Type 0) where
   pub gave_none : (stream : F) → Gave polled stream [] stream
@@ -30,7 +22,7 @@ module _ {F A : Type 0} (polled : F → Poll (Option A) → F → Type 0) where
       record {
         answers = a.answers ++ b.answers;
         polls = folds_append polled a.answers b.answers first second third a.polls b.polls;
-        go_on = every_append IsNoEnd a.answers b.answers a.go_on b.go_on;
+        go_on = each-append IsNoEnd a.answers b.answers a.go_on b.go_on;
         gave = rw (a.gave, b.gave) (sym (filter_map-append item_of a.answers b.answers));
       }
 

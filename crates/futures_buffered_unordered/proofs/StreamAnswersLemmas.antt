@@ -1,7 +1,9 @@
 -- What holds after every poll holds after each answer.
-use Rattle.std.proofs.Common.{arith, ℕ, Option, OnSome}
-use Rattle.futures.specs.Task.{Covers}
+use Rattle.std.proofs.Common.{arith, ℕ, [], Option, IfSome, OnSome}
+use Rattle.futures.specs.Task.{Covers, Keeps}
 use Rattle.futures.specs.Poll.{IfReady, OnPending}
+use Rattle.futures.specs.Runs.{After, Within}
+use Rattle.futures_buffered_unordered.specs.StreamAnswers.{StreamAnswers, StreamOf}
 use Rattle.futures.specs.declared.task.context.Context.{Context}
 use Rattle.futures.specs.declared.task.Poll.{Poll}
 use Rattle.futures.specs.declared.task.Poll.TheVariants.{Ready, Pending}
@@ -16,3 +18,17 @@ while_pending answer p = grind arith
 pub covers_fewer : {B : Type 0} (answer : Poll B) (cx : Context) (needs fewer : ℕ → Type 0) → ((n : ℕ) → fewer n → needs n) → OnPending answer (Covers cx needs) → OnPending answer (Covers cx fewer)
 covers_fewer (Ready x) cx needs fewer within h = tt
 covers_fewer Pending cx needs fewer within h = (h.0, λ n waits. h.1 n (within n waits))
+
+-- one poll of a stream that may be polled again after any answer
+pub answers_of : {T A : Type 0} (stream : StreamOf T A) (old new : T) (answer : Poll (Option A)) (cx left : Context) → IfReady answer (stream.yields old []) → IfReady answer (λ o. IfSome o (λ x. After (stream.yields old) x (stream.yields new))) → OnPending answer (Within (stream.yields old) (stream.yields new))
+    → stream.can_poll new → OnPending answer (Covers left (stream.needs new)) → Keeps cx left → StreamAnswers stream old answer new cx left
+answers_of stream old new answer cx left value rest same pollable registered kept =
+    record {
+      value = value;
+      rest = rest;
+      same = same;
+      goes = after_item answer pollable;
+      again = while_pending answer pollable;
+      registered = registered;
+      kept = kept;
+    }

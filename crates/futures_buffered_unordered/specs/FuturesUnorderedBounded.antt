@@ -148,6 +148,12 @@ stops_early (Some (Slot i)) = false
 abbrev pub IsWoken : Context → Type 0
 IsWoken cx = (s : ℕ) → Hears cx s
 
+-- steps that follow others
+abbrev pub folds_append : {P A : Type 0} (step : P → A → P → Type 0) (xs ys : List A) (p q r : P)
+    → FoldsTo step p xs q → FoldsTo step q ys r → FoldsTo step p (xs ++ ys) r
+folds_append step [] ys p q r first rest = subst (λ s. FoldsTo step s ys r) (sym first) rest
+folds_append step (x ∷ xs) ys p q r first rest = (first.0, first.1, folds_append step xs ys first.0 q r first.2 rest)
+
 -- the task is unchanged, or as registrations with sources leave it
 abbrev pub OnlyRegisters : {S : Type 0} → (S → Context → Context → Type 0) → Context → Context → Type 0
 OnlyRegisters {S} registers_poll old new = (sources : List S)
@@ -159,17 +165,9 @@ module _ {S : Type 0} (registers_poll : S → Context → Context → Type 0) wh
   registers_none old new same = ([], sym same)
 
   -- registrations after others are registrations
-  abbrev pub registers_after : (mid new : Context) → OnlyRegisters registers_poll mid new → (sources : List S)
-      → (old : Context) → FoldsTo (λ cx source next. registers_poll source cx next) old sources mid
-      → OnlyRegisters registers_poll old new
-  registers_after mid new later [] old same = subst (λ cx. OnlyRegisters registers_poll cx new) (sym same) later
-  registers_after mid new later (source ∷ sources) old h =
-      let rest = registers_after mid new later sources h.0 h.2 in
-      (source ∷ rest.0, (h.0, h.1, rest.1))
-
   abbrev pub registers_more : (old mid new : Context) → OnlyRegisters registers_poll old mid
       → OnlyRegisters registers_poll mid new → OnlyRegisters registers_poll old new
-  registers_more old mid new before later = registers_after mid new later before.0 old before.1
+  registers_more old mid new before later = (before.0 ++ later.0, folds_append _ before.0 later.0 old mid new before.1 later.1)
 
 module _
     {F A S : Type 0}

@@ -6,9 +6,8 @@ use Rattle.futures.specs.Poll.{IfReady, OnPending}
 use Rattle.futures.specs.declared.task.Poll.{Poll}
 use Rattle.futures_buffered_core.specs.ReadySource.{WaitsAlike}
 use Rattle.futures_buffered_core.specs.SlotMap.{slot_count}
-use Rattle.futures_buffered_table.specs.declared.answer.Woke.{Woke}
 use Rattle.futures_buffered_table.specs.declared.answer.TheConstants.{MAX_CAPACITY}
-use Rattle.futures_buffered_unordered.specs.FuturesUnorderedBounded.{Bounded, Pushes, IsNewSet, held_in}
+use Rattle.futures_buffered_unordered.specs.FuturesUnorderedBounded.{Bounded, IsNewSet, held_in}
 use Rattle.futures_buffered_unordered.specs.Groups.{Groups}
 use Rattle.futures_buffered_unordered.specs.FuturesUnordered.{Growing, held_in_all}
 use Rattle.futures_buffered_unordered.specs.declared.futures_unordered.TheConstants.{MAX_HELD}
@@ -75,23 +74,5 @@ module _ {F S : Type 0} where
     pub group : Bounded F S
     pub is_new : IsNewSet made cap old.limit group
     pub listed : new.groups.listed ≡ old.groups.listed ++ group ∷ []
-    pub same_place : new.groups.place ≡ old.groups.place
-    pub same_limit : new.limit ≡ old.limit
-
-  -- the value was put into the last group, which had a free slot; the other groups, the place and the limit do not
-  -- change
-  pub record PushesLast
-      (marks : S → ℕ → Woke → S → Type 0)
-      (old : Growing F S)
-      (value : F)
-      (new : Growing F S)
-      : Type 0 where
-    pub before : List (Bounded F S)
-    pub into : Bounded F S
-    pub pushed_into : Bounded F S
-    pub stood : old.groups.listed ≡ before ++ into ∷ []
-    pub has_room : held_in into < slot_count into.slots
-    pub pushed : Pushes marks into value pushed_into
-    pub now_listed : new.groups.listed ≡ before ++ pushed_into ∷ []
     pub same_place : new.groups.place ≡ old.groups.place
     pub same_limit : new.limit ≡ old.limit

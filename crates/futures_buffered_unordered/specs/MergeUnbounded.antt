@@ -7,7 +7,7 @@ use Rattle.futures.specs.declared.task.Poll.{Poll}
 use Rattle.futures.specs.declared.task.Poll.TheVariants.{Ready}
 use Rattle.futures.specs.Poll.{OnPending}
 use Rattle.futures.specs.Task.{Covers}
-use Rattle.futures.specs.Runs.{Runs, ItemsWhere, seconds}
+use Rattle.futures.specs.Runs.{Runs, ItemsWhere}
 use Rattle.futures_buffered_core.specs.SlotMap.{Slots, value_in}
 use Rattle.futures_buffered_table.specs.declared.answer.Woke.{Woke}
 use Rattle.futures_buffered_core.specs.ReadySource.{SourceSteps}
@@ -22,7 +22,7 @@ use Rattle.futures_buffered_unordered.specs.declared.futures_unordered.TheConsta
 use Rattle.futures_buffered_unordered.specs.SlotStream.{items_in}
 use Rattle.futures_buffered_unordered.specs.declared.slot_stream.SlotStream.{Ghosts as SlotStreamOf}
 use Rattle.futures_buffered_unordered.specs.Merging.{MergeAsks}
-use Rattle.futures_buffered_unordered.specs.MergeBounded.{StreamsGave, ComesFromStreams, SlotsGaveInTurn, MergeEvent}
+use Rattle.futures_buffered_unordered.specs.MergeBounded.{ComesFromStreams, SlotsGaveInTurn, MergeEvent}
 use Rattle.futures_buffered_unordered.specs.MergeBounded.{answered, pushed, answers_of, streams_of}
 
 -- no slot holds a stream
@@ -38,30 +38,11 @@ module _ {F A S : Type 0} (polled : ℕ → F → Poll (Option A) → F → Type
   abbrev pub ItemsComeFromGroups : List (Bounded F S) → Runs A
   ItemsComeFromGroups groups = ItemsWhere (λ x. AnyOf (λ group. GroupMayGive group x) groups)
 
-  -- The items are all that the streams of the old groups returned, of each stream in its order: the items of the first
-  -- group, interleaved with the items of the other groups. A group that is no longer listed holds no stream.
-  abbrev pub GroupsGave : List (Bounded F S) → List A → List (Bounded F S) → Type 0
-  GroupsGave [] items new = (items ≡ []) × (new ≡ [])
-  GroupsGave (group ∷ groups) items new = (left : Bounded F S) × (given : List (ℕ × A))
-      × StreamsGave polled group.slots given left.slots
-      × (others : List A) × (listed : List (Bounded F S))
-      × GroupsGave groups others listed
-      × Interleaves (seconds given) others items
-      × ((new ≡ left ∷ listed) ⊎ ((new ≡ listed) × HoldsNone left.slots))
-
 -- one poll of groups of streams, whether or not one of them stopped
 abbrev pub GroupsPolled : {F A S : Type 0} → (ℕ → F → Poll (Option A) → F → Type 0) → SourceSteps S
     → (S → ℕ → Woke → S → Type 0) → Groups (Bounded F S) → Poll (Option A) → Groups (Bounded F S) → Type 0
 GroupsPolled polled steps marks old answer new = (stopped : Bool)
     × GroupsGive (MergeAsks polled steps marks) old answer stopped new
-
--- after any polls, the items that they returned are all that the streams returned
-abbrev pub KeepsOrderInGroups : {F A S : Type 0} → (ℕ → F → Poll (Option A) → F → Type 0)
-    → SourceSteps S → (S → ℕ → Woke → S → Type 0) → Type 0
-KeepsOrderInGroups {F} {A} {S} polled steps marks = (old new : Groups (Bounded F S))
-    (answers : List (Poll (Option A)))
-    → FoldsTo (GroupsPolled polled steps marks) old answers new
-    → GroupsGave polled old.listed (items_in answers) new.listed
 
 -- what the slots of each group hold
 abbrev pub slots_of_each : {F S : Type 0} → List (Bounded F S) → List (Slots F)
@@ -81,6 +62,14 @@ GroupsGaveInTurn {F} {A} polled (group ∷ groups) items streams new = (left : S
     × Interleaves given others items
     × Interleaves into elsewhere streams
     × ((new ≡ left ∷ listed) ⊎ ((new ≡ listed) × HoldsNone left))
+
+-- after any polls, the items that they returned are all that the streams returned
+abbrev pub KeepsOrderInGroups : {F A S : Type 0} → (ℕ → F → Poll (Option A) → F → Type 0)
+    → SourceSteps S → (S → ℕ → Woke → S → Type 0) → Type 0
+KeepsOrderInGroups {F} {A} {S} polled steps marks = (old new : Groups (Bounded F S))
+    (answers : List (Poll (Option A)))
+    → FoldsTo (GroupsPolled polled steps marks) old answers new
+    → GroupsGaveInTurn polled (slots_of_each old.listed) (items_in answers) [] (slots_of_each new.listed)
 
 module _
     {F A S : Type 0}

@@ -24,7 +24,7 @@ ghost use Rattle.futures_buffered_unordered.specs.FuturesUnordered.{PushesOrStay
 ghost use Rattle.futures_buffered_unordered.specs.FuturesUnordered.{capacity_of};
 ghost use Rattle.futures_buffered_unordered.specs.FuturesUnordered.{next_capacity, spare_places, SetRefuses};
 ghost use Rattle.futures_buffered_unordered.specs.FuturesUnordered.{SetMayRefuse, MakesSharedSet};
-ghost use Rattle.futures_buffered_unordered.specs.FuturesUnorderedInvariant.{AddsGroup, PushesLast};
+ghost use Rattle.futures_buffered_unordered.specs.FuturesUnorderedInvariant.{AddsGroup};
 ghost use Rattle.futures_buffered_unordered.specs.PollsGrowing.{PollsGroups, PollsGrowing};
 ghost use Rattle.futures_buffered_unordered.specs.Extended.{Extends, HoldsAllOf, StopsAtBound};
 
@@ -203,7 +203,7 @@ impl<F: Drop, S: NewSource, K> GrowingSet<F, S, K> {
     fn push_last(&mut self, value: F)
         requires room { 0 < spare_places self.old.groups.listed }
         requires few { held_in_all self.old.groups.listed < MAX_HELD }
-        ensures pushed { PushesLast S.marks self.old value self.new }
+        ensures pushed { GrowingPushes S.marks S.made FIRST_GROUP self.old value self.new }
         ensures count { held_in_all self.new.groups.listed ≡ held_in_all self.old.groups.listed + 1 }
     {
         let last = self.groups.len() - 1;

@@ -1,6 +1,4 @@
 use Rattle.std.proofs.Common.{rules}
-use Rattle.futures_buffered_unordered.proofs.FuturesUnorderedStreamLemmas.{groups_give}
-use Rattle.futures_buffered_ordered.specs.Numbered.{PollsNumbered}
 use Rattle.futures_buffered_ordered.proofs.FuturesOrderedLemmas.{numbers_left}
 use Rattle.futures_buffered_ordered.proofs.futures_ordered.FuturesUnorderedNumberedPollNumberedSet.poll_numbered.Goals as goal
 
@@ -11,7 +9,7 @@ returns g c =
       gave = poll;
       empty = search rules;
       fewer = poll.count;
-      numbers = λ i. numbers_left i g.R.PollOne.polled g.S.ReadySource.steps c.args.self.now.groups c.poll_with.new.self.groups poll.groups.stopped c.poll_with.result (groups_give (PollsNumbered g.R.PollOne.polled) g.S.ReadySource.steps _ _ _ _ poll.groups.gave);
+      numbers = λ i. numbers_left i g.R.PollOne.polled g.S.ReadySource.steps c.args.self.now.groups c.poll_with.new.self.groups poll.groups.stopped c.poll_with.result poll.groups.gave;
       set = poll.groups.limit;
       covered = poll.registered;
       kept = poll.groups.kept;

@@ -1,9 +1,6 @@
 use Rattle.std.proofs.Common.{arith}
-use Rattle.futures_buffered_unordered.specs.FuturesUnorderedBounded.{PollGives}
 use Rattle.futures_buffered_unordered.proofs.FuturesUnorderedLemmas.{covered_of}
-use Rattle.futures_buffered_unordered.proofs.FuturesUnorderedPollLemmas.{groups_counted, ends_none_held}
-use Rattle.futures_buffered_unordered.proofs.FuturesUnorderedStreamLemmas.{groups_give}
-use Rattle.futures_buffered_unordered.proofs.FuturesUnorderedBoundedLemmas.{poll_counted, poll_end_is_empty, poll_pending_holds}
+use Rattle.futures_buffered_unordered.proofs.FuturesUnorderedStreamLemmas.{count_of, ends_of, held_of}
 use Rattle.futures_buffered_unordered.proofs.futures_unordered.FuturesUnordered+F+S.poll_with.Goals as goal
 
 pub returns : goal.returns
@@ -11,12 +8,9 @@ returns g c =
     let polled = g.R.PollOne.polled in
     let steps = g.S.ReadySource.steps in
     let poll = c.poll_groups.ensures in
-    let gave = groups_give polled steps _ _ _ _ poll.gave in
-    let ends = ends_none_held (PollGives polled steps) (poll_end_is_empty polled steps) (poll_pending_holds polled steps) (poll_counted polled steps) _ _ _ _ gave in
-    let count = groups_counted (PollGives polled steps) (poll_end_is_empty polled steps) (poll_pending_holds polled steps) (poll_counted polled steps) _ _ _ _ gave in
     record {
       groups = grind arith;
-      ends = ends;
-      count = count;
-      registered = covered_of g.S.ReadySource.needs c.poll_groups.new.cx c.poll_groups.result c.args.self.now.groups.listed c.poll_groups.new.self.groups.listed poll.covered ends.1 count;
+      ends = ends_of polled steps _ _ _ _ poll.gave;
+      count = count_of polled steps _ _ _ _ poll.gave;
+      registered = covered_of g.S.ReadySource.needs c.poll_groups.new.cx c.poll_groups.result c.poll_groups.new.self.groups.listed poll.covered (held_of polled steps _ _ _ _ poll.gave);
     }

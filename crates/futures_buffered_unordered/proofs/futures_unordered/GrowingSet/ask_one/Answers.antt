@@ -5,7 +5,7 @@ use Rattle.futures.specs.Task.{Covers}
 use Rattle.futures_buffered_unordered.specs.Held.{AllHeld}
 use Rattle.futures_buffered_unordered.specs.FuturesUnorderedBounded.{Bounded}
 use Rattle.futures_buffered_unordered.proofs.GroupsStepLemmas.{one_some, one_pending, one_last, one_left, All-removed}
-use Rattle.futures_buffered_unordered.proofs.FuturesUnorderedInvariantLemmas.{keeps_pending, keeps_asked, keeps_ended_last, keeps_ended, covered_asked, still_asked, covered_at, counts_asked}
+use Rattle.futures_buffered_unordered.proofs.FuturesUnorderedInvariantLemmas.{keeps_pending, keeps_asked, keeps_ended_last, keeps_ended, covered_asked, still_asked, covered_at}
 use Rattle.futures_buffered_unordered.proofs.futures_unordered.GrowingSet.ask_one.Goals as goal
 
 pub ask-answer-requires-clause-registered : goal.ask-answer-requires-clause-registered
@@ -18,32 +18,28 @@ invariant_of-self g c =
     let at = rw (← c.self.view_is) at c.next_place-place.ensures in
     let is = c.index_mut-group.ensures.value in
     let kept = c.ask-answer.ensures.keeps in
-    let counts = counts_asked g.S.ReadySource.needs _ _ _ _ _ _ _ c.self.invariant at.value at.below is kept _ _ _ c.len-before.ensures c.len.ensures refl in
-    keeps_pending g.S.ReadySource.needs _ _ _ _ _ _ _ c.self.invariant at.value at.below is kept _ counts c.in-Pending.is
+    keeps_pending g.S.ReadySource.needs _ _ _ _ _ _ _ c.self.invariant at.value at.below is kept _ _ _ c.len-before.ensures c.len.ensures refl c.in-Pending.is
 
 pub invariant_of-self-then-is_some : goal.invariant_of-self-then-is_some
 invariant_of-self-then-is_some g c =
     let at = rw (← c.self.view_is) at c.next_place-place.ensures in
     let is = c.index_mut-group.ensures.value in
     let kept = c.ask-answer.ensures.keeps in
-    let counts = counts_asked g.S.ReadySource.needs _ _ _ _ _ _ _ c.self.invariant at.value at.below is kept _ _ _ c.len-before.ensures c.len.ensures refl in
-    keeps_asked g.S.ReadySource.needs _ _ _ _ _ _ _ c.self.invariant at.value at.below is kept _ counts
+    keeps_asked g.S.ReadySource.needs _ _ _ _ _ _ _ c.self.invariant at.value at.below is kept _ _ _ c.len-before.ensures c.len.ensures refl
 
 pub invariant_of-self-then-place-len : goal.invariant_of-self-then-place-len
 invariant_of-self-then-place-len g c =
     let at = rw (← c.self.view_is) at c.next_place-place.ensures in
     let is = c.index_mut-group.ensures.value in
     let kept = c.ask-answer.ensures.keeps in
-    let counts = counts_asked g.S.ReadySource.needs _ _ _ _ _ _ _ c.self.invariant at.value at.below is kept _ _ _ c.len-before.ensures c.len.ensures refl in
-    keeps_ended_last g.S.ReadySource.needs _ _ _ _ _ _ _ c.self.invariant at.value at.below is kept _ counts (search rules)
+    keeps_ended_last g.S.ReadySource.needs _ _ _ _ _ _ _ c.self.invariant at.value at.below is kept _ _ _ c.len-before.ensures c.len.ensures refl (search rules)
 
 pub invariant_of-self-else-place-len : goal.invariant_of-self-else-place-len
 invariant_of-self-else-place-len g c =
     let at = rw (← c.self.view_is) at c.next_place-place.ensures in
     let is = c.index_mut-group.ensures.value in
     let kept = c.ask-answer.ensures.keeps in
-    let counts = counts_asked g.S.ReadySource.needs _ _ _ _ _ _ _ c.self.invariant at.value at.below is kept _ _ _ c.len-before.ensures c.len.ensures refl in
-    keeps_ended g.S.ReadySource.needs _ _ _ _ _ _ _ c.self.invariant at.value at.below is kept _ counts _ _ c.in-Ready.is (search rules) (search rules) c.drop_group.ensures
+    keeps_ended g.S.ReadySource.needs _ _ _ _ _ _ _ c.self.invariant at.value at.below is kept _ _ _ c.len-before.ensures c.len.ensures refl _ _ c.in-Ready.is (search rules) (search rules) c.drop_group.ensures
 
 pub returns-in-Pending-clause-asked : goal.returns-in-Pending-clause-asked
 returns-in-Pending-clause-asked g c =

@@ -28,7 +28,7 @@ pub returns-clause-pushed : goal.returns-clause-pushed
 returns-clause-pushed g c =
     let room = subst (λ (v : Growing g.row.F.Denot g.row.S.Denot). 0 < spare_places v.groups.listed) (sym c.self.view_is) c.requires.room in
     let last : c.len-last.result - 1 + 1 ≡ length c.self.inside.groups.items = omega (arith, spare_some c.self.inside.groups.items room, c.len-last.ensures) in
-    rw (← c.self.view_is) (pushes_last g.S.ReadySource.marks _ (c.len-last.result - 1) _ _ _ last c.index_mut.ensures.value room c.push.ensures.pushed)
+    rw (← c.self.view_is) (pushes_last g.S.ReadySource.marks g.S.NewSource.made 32 _ (c.len-last.result - 1) _ _ _ last c.index_mut.ensures.value room c.push.ensures.pushed)
 
 pub overflow_sub-last : goal.overflow_sub-last
 overflow_sub-last g c = grind (arith, common_steps)

@@ -1,23 +1,14 @@
-use Rattle.futures_buffered_unordered.proofs.MergeUnboundedLemmas.{covered_any, ends_of, groups_give}
+use Rattle.std.proofs.Common.{arith}
+use Rattle.futures_buffered_unordered.proofs.FuturesUnorderedLemmas.{covered_of}
+use Rattle.futures_buffered_unordered.proofs.MergeUnboundedLemmas.{ends_of, held_of}
 use Rattle.futures_buffered_unordered.proofs.merge_unbounded.MergeUnboundedStream.poll_next.Goals as goal
 
 pub returns : goal.returns
 returns g c =
     let source = g.S.ReadySource in
     let poll = c.poll_groups.ensures in
-    let gave = groups_give g.St.SlotStream.polled source.steps source.marks _ _ _ _ poll.gave in
-    let ends = ends_of g.St.SlotStream.polled source.steps source.marks _ _ _ _ gave in
     record {
-      groups = record {
-        stopped = poll.stopped;
-        gave = poll.gave;
-        woken = poll.woken;
-        at_end = poll.at_end;
-        limit = poll.limit;
-        covered = poll.covered;
-        kept = poll.kept;
-        pollable = poll.pollable;
-      };
-      ends = ends;
-      registered = covered_any source.needs c.poll_groups.new.cx c.poll_groups.result c.poll_groups.new.self.groups.listed poll.covered ends.1;
+      groups = grind arith;
+      ends = ends_of g.St.SlotStream.polled source.steps source.marks _ _ _ _ poll.gave;
+      registered = covered_of source.needs c.poll_groups.new.cx c.poll_groups.result c.poll_groups.new.self.groups.listed poll.covered (held_of g.St.SlotStream.polled source.steps source.marks _ _ _ _ poll.gave);
     }
