@@ -2,21 +2,9 @@
 use Rattle.std.proofs.Common.{◌≡◌, ℕ, List, [], ◌∷◌, ◌++◌, Option, Some, None, refl, sym, subst, inl, inr, append-nil, append_assoc}
 use Rattle.std.specs.Option.{option_to_list}
 use Rattle.std.specs.List.{FoldsTo}
-use Rattle.futures.specs.declared.task.context.Context.{Context}
 use Rattle.futures.specs.declared.task.Poll.{Poll}
 use Rattle.futures.specs.declared.task.Poll.TheVariants.{Ready, Pending}
-use Rattle.futures_buffered.specs.Buffer.{Buffering, FutureQueueOf, StreamOf, CallEnds, CallGivesWith, PollsBuffer, PollsStream, PollsWithTask, CallsInTurn, DrawsItem, DrawsLast, DrawsNone, all_drawn, all_outputs, answer_from, output_given}
-
--- What a caller takes from the record of a poll, who speaks of the buffer alone: `alone` tells a poll of the queue so.
-pub calls_of : {St X A Q : Type 0} (source : StreamOf St X) (by : FutureQueueOf Q X A) (alone : Q → Poll (Option A) → Q → Type 0) → ((before after : Q) (answer : Poll (Option A)) (cx left : Context) → by.polls before answer after cx left → alone before answer after)
-    → (old new : Buffering St Q) (answer : Poll (Option A)) (cx left : Context) → PollsBuffer source by old answer new cx left → CallGivesWith (PollsStream source.yields) by.count (by.room old.queue) by.pushes alone (Unit {0}) old answer new
-calls_of {St} {X} {A} {Q} source by alone told old new answer cx left it =
-    let call = it.gave.1 in
-    (it.gave.0, record { given = call.given; filled = call.filled; draws = call.draws; ends = without_task call.given call.ends })
-  where
-    without_task : (given : Option A) → CallEnds (PollsWithTask by.polls it.task_then left) (left ≡ it.task_then) given it.gave.1.filled answer new → CallEnds alone (Unit {0}) given it.gave.1.filled answer new
-    without_task None ends = record { queue_answer = ends.queue_answer; polls_queue = told it.gave.1.filled.queue new.queue ends.queue_answer it.task_then left ends.polls_queue; same_stream = ends.same_stream; gives = ends.gives }
-    without_task (Some x) ends = (ends.0, ends.1, tt)
+use Rattle.futures_buffered.specs.Buffer.{Buffering, CallEnds, CallsInTurn, DrawsItem, DrawsLast, DrawsNone, all_drawn, all_outputs, answer_from, output_given}
 
 same_output : {St A : Type 0} (stream : Option St) (queue_answer : Poll (Option A)) → output_given (answer_from stream queue_answer) ≡ output_given queue_answer
 same_output stream (Ready (Some x)) = refl

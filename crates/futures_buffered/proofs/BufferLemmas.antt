@@ -10,7 +10,7 @@ use Rattle.futures.specs.Buffered.{GathersWith}
 use Rattle.futures.specs.Poll.{IfReady, OnPending}
 use Rattle.futures_buffered_unordered.specs.StreamAnswers.{StreamAnswers, stream_of}
 use Rattle.futures_buffered.specs.FutureQueue.{MayCome, AddsOutput, PollsFutureQueue, PushAddsOutput, PushLeavesQueue}
-use Rattle.futures_buffered.specs.Buffer.{Buffering, FutureQueueOf, StreamOf, Ahead, AsksStream, DrawsAll, DrawsBuffer, DrawsTask, HasNoTurn, CallGivesWith, PollsBuffer, PollsStream, PollsWithTask, CanDraw, WaitsAt, OneComes, Comes, BufferGives, buffer_of, answer_from, answer_of_none}
+use Rattle.futures_buffered.specs.Buffer.{Buffering, FutureQueueOf, StreamOf, Ahead, AsksStream, DrawsAll, DrawsBuffer, DrawsTask, HasNoTurn, BufferCall, PollsBuffer, PollsStream, CanDraw, WaitsAt, OneComes, BufferGives, buffer_of, answer_from}
 
 None-Some : {X F : Type 0} {f : F} → None ≡ Some f → X
 None-Some e = cc
@@ -125,7 +125,7 @@ module _ {St X A Q : Type 0} (yields : St → Runs X) (item_gives : X → A → 
   One stream q = OneComes yields item_gives count comes (Of stream q)
 
   abbrev Any : Option St → Q → Runs A
-  Any stream q = Comes yields item_gives count comes (Of stream q)
+  Any stream q = BufferGives yields item_gives count comes false (Of stream q)
 
   -- one item less is ahead
   one_less : (s s2 : St) (item : X) (q : Q) → After (yields s) item (yields s2) → (y : A) → One (Some s2) q y → One (Some s) q y
@@ -306,7 +306,7 @@ after_draws count room can_draw yields old now new (Some x) same less last =
 -- one call, of its draws and its poll of the queue
 pub call_of : {St F A Q : Type 0} (next : St → Poll (Option F) → St → Type 0) (count : Q → ℕ) (n : ℕ) (pushes : Q → F → Option A → Q → Type 0) (polls : Q → Poll (Option A) → Q → Type 0) (task_stays : Type 0) (old filled : Buffering St Q) (stream : Option St) (queue left : Q) (queue_answer answer : Poll (Option A))
     → filled ≡ record { stream = stream; queue = queue } → (drawn : List F) × DrawsAll next count n pushes old drawn None filled → polls queue queue_answer left → answer ≡ answer_from stream queue_answer
-    → CallGivesWith next count n pushes polls task_stays old answer (record { stream = stream; queue = left })
+    → (items : List F) × BufferCall next count n pushes polls task_stays old items answer (record { stream = stream; queue = left })
 call_of next count n pushes polls task_stays old filled stream queue left queue_answer answer is draws polled gives = (
   draws.0,
   record {
@@ -350,7 +350,7 @@ poll_of source by old filled stream queue left queue_answer answer cx task_then 
       task_then = task_then;
       draws_keep = kept;
       not_polled = not_polled;
-      gave = call_of (PollsStream source.yields) by.count (by.room old.queue) by.pushes (PollsWithTask by.polls task_then after) (after ≡ task_then) old filled stream queue left queue_answer answer is draws polled.polled gives;
+      gave = call_of (PollsStream source.yields) by.count (by.room old.queue) by.pushes (λ before reply now. by.polls before reply now task_then after) (after ≡ task_then) old filled stream queue left queue_answer answer is draws polled.polled gives;
       ended = rw gives (ended_by by.count stream queue left queue_answer polled.empty);
       waits = rw gives (waits_by stream queue_answer (by.count left) polled.holds);
       same_room = polled.same_room ∙ rw is at same_room;
@@ -359,11 +359,11 @@ poll_of source by old filled stream queue left queue_answer answer cx task_then 
     }
 
 -- the end of the queue, where the stream goes on and where it has ended
-pub some_pends : {St A : Type 0} (stream : Option St) → is_some stream ≡ true → ◌≡◌ {A = Poll (Option A)} Pending (answer_of_none stream)
+pub some_pends : {St A : Type 0} (stream : Option St) → is_some stream ≡ true → ◌≡◌ {A = Poll (Option A)} Pending (answer_from stream (Ready None))
 some_pends None e = cc
 some_pends (Some s) e = refl
 
-pub none_ends : {St A : Type 0} (stream : Option St) → is_some stream ≡ false → ◌≡◌ {A = Poll (Option A)} (Ready None) (answer_of_none stream)
+pub none_ends : {St A : Type 0} (stream : Option St) → is_some stream ≡ false → ◌≡◌ {A = Poll (Option A)} (Ready None) (answer_from stream (Ready None))
 none_ends None e = refl
 none_ends (Some s) e = cc
 

@@ -12,7 +12,7 @@ use Rattle.futures.specs.Runs.{After, Calls, Within, firsts}
 use Rattle.futures_buffered_unordered.specs.FuturesUnorderedBounded.{Bounded, IsWoken, Pushes, held_in, slots_in}
 use Rattle.futures_buffered_unordered.specs.PollsBounded.{PollsBounded, itself}
 use Rattle.futures_buffered_unordered.proofs.HeldLemmas.{AllHeld-push}
-use Rattle.futures_buffered.specs.Buffer.{HasNoTurn, PollsStream, StreamOf}
+use Rattle.futures_buffered.specs.Buffer.{PollsStream, StreamOf}
 use Rattle.futures_buffered.specs.BufferUnordered.{SetWaitsAt}
 use Rattle.futures_buffered.specs.Turns.{PollsInTurns, TakesTurn, TurnLeaves, so_far}
 use Rattle.futures_buffered.specs.ForEachConcurrent.{ForEach, TurnGives, DrawLeaves, DrawLeavesTask, DrawsOnce, ReadySourceOf, SlotFutureOf, turn_answer, CanForEach, MayEnd, for_each_of}
@@ -31,11 +31,6 @@ module _ {St X Fn F W S : Type 0} (stream : StreamOf St X) (closure : Mut Fn (X 
   pub draws_pending : (old : ForEach St Fn (Bounded F S)) (s left : St) (q : Bounded F S) (f : Fn) → old ≡ record { buffer = record { stream = Some s; queue = q }; closure = f } → held_in q < slots_in q → PollsStream stream.yields s Pending left
       → (item : Option X) × (is_some item ≡ false) × DrawsOnce stream closure future source old item (record { buffer = record { stream = Some left; queue = q }; closure = f })
   draws_pending old s left q f is room answers = rw is (None, refl, (inr (inl (left, record { stream = s; not_ended = refl; has_room = room; answers = answers }, refl)), refl))
-
-  -- where the stream had no turn, nothing changes
-  pub draws_nothing : (old new : ForEach St Fn (Bounded F S)) → HasNoTurn (PollsStream stream.yields) held_in (slots_in old.buffer.queue) old.buffer → new ≡ old
-      → (item : Option X) × (is_some item ≡ false) × DrawsOnce stream closure future source old item new
-  draws_nothing old new none is = rw is (None, refl, (inl (none, refl), refl))
 
   pub each_item_can : (old : ForEach St Fn (Bounded F S)) (s left : St) (x : X) (q q2 : Bounded F S) (f f1 : Fn) (made : F) → old ≡ record { buffer = record { stream = Some s; queue = q }; closure = f } → CanForEach stream closure future old
       → Pushes source.marks q made q2 → Calls closure f x made f1 → stream.yields s [] (Some x) → After (stream.yields s) x (stream.yields left) → stream.can_poll left

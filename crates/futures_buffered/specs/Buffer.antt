@@ -16,7 +16,7 @@ use Rattle.futures.specs.Poll.{IfReady, OnPending}
 use Rattle.futures.specs.Runs.{Runs, After, Within, Ends, AllItems, Chains, Resolves}
 use Rattle.futures.specs.Buffered.{AnyItemGives, GathersWith}
 pub use Rattle.futures.specs.declared.stream.Stream.{Ghosts as StreamOf}
-use Rattle.futures_buffered_unordered.specs.StreamAnswers.{StreamAnswers, stream_of}
+use Rattle.futures_buffered_unordered.specs.StreamAnswers.{StreamAnswers}
 use Rattle.futures_buffered.specs.FutureQueue.{MayCome}
 pub use Rattle.futures_buffered.specs.declared.future_queue.FutureQueue.{Ghosts as FutureQueueOf}
 
@@ -48,15 +48,12 @@ abbrev pub Ahead : {St F : Type 0} → (St → Runs F) → Option St → Runs F
 Ahead yields None = Ends
 Ahead yields (Some stream) = yields stream
 
--- what a call returns if the queue holds nothing: `None` if the stream has ended, otherwise `Pending`
-abbrev pub answer_of_none : {St A : Type 0} → Option St → Poll (Option A)
-answer_of_none None = Ready None
-answer_of_none (Some _) = Pending
-
--- what a call returns, by what the queue returned: an output and `Pending` are returned as they are
+-- What a call returns, by what the queue returned: an output and `Pending` are returned as they are. If the queue held
+-- nothing, the call returns `None` if the stream has ended, otherwise `Pending`.
 abbrev pub answer_from : {St A : Type 0} → Option St → Poll (Option A) → Poll (Option A)
 answer_from stream (Ready (Some x)) = Ready (Some x)
-answer_from stream (Ready None) = answer_of_none stream
+answer_from None (Ready None) = Ready None
+answer_from (Some _) (Ready None) = Pending
 answer_from stream Pending = Pending
 
 -- the output that a call returned, if any
@@ -136,10 +133,6 @@ module _ {St X Q : Type 0} (next : St → Poll (Option X) → St → Type 0) (co
         pub draws : DrawsAll old drawn given filled
         pub ends : CallEnds polls task_stays given filled answer new
 
-      -- one call, whichever items it took
-      abbrev pub CallGivesWith : Buffering St Q → Poll (Option A) → Buffering St Q → Type 0
-      CallGivesWith old answer new = (drawn : List X) × BufferCall old drawn answer new
-
     -- many calls in a row, each with the items that it took and with its answer; if the queue is not polled, no more is
     -- said of the call
     abbrev pub CallsInTurn : (Q → Poll (Option A) → Q → Type 0) → Buffering St Q
@@ -214,34 +207,20 @@ module _ {St X A Q : Type 0} (yields : St → Runs X) (item_gives : X → A → 
   abbrev pub OneComes : Buffering St Q → A → Type 0
   OneComes b x = MayCome (comes b.queue) x ⊎ AnyItemGives item_gives (Ahead yields b.stream) x
 
-  -- as many outputs as are held and as items come from the stream, each of them by `OneComes`, and then `None`
-  abbrev pub Comes : Buffering St Q → Runs A
-  Comes b = GathersWith (OneComes b) (count b.queue) (Ahead yields b.stream)
-
-  -- all that comes from the queue; then an output of each item that comes from the stream, in order; and then `None`
-  abbrev pub ComesInTurn : Buffering St Q → Runs A
-  ComesInTurn b = Chains (comes b.queue) (Resolves item_gives (Ahead yields b.stream))
-
-  -- what may come from a buffer, by whether its queue keeps the order
+  -- What may come from a buffer, by whether its queue keeps the order. If it does: all that comes from the queue; then
+  -- an output of each item that comes from the stream, in order; and then `None`. Otherwise: as many outputs as are held
+  -- and as items come from the stream, each of them by `OneComes`; and then `None`.
   abbrev pub BufferGives : Bool → Buffering St Q → Runs A
-  BufferGives true b = ComesInTurn b
-  BufferGives false b = Comes b
-
--- a buffer over such a stream and such a queue may be polled
-abbrev pub CanPollBuffer : {St X A Q : Type 0} → StreamOf St X → FutureQueueOf Q X A → Buffering St Q → Type 0
-CanPollBuffer stream queue = CanDraw stream.can_poll stream.yields queue.is_fit queue.can_poll
+  BufferGives true b = Chains (comes b.queue) (Resolves item_gives (Ahead yields b.stream))
+  BufferGives false b = GathersWith (OneComes b) (count b.queue) (Ahead yields b.stream)
 
 -- the ghost members of a buffer as a stream
 abbrev pub buffer_of : {St X A Q : Type 0} → StreamOf St X → FutureQueueOf Q X A → StreamOf (Buffering St Q) A
-buffer_of stream queue = stream_of
-    (CanPollBuffer stream queue)
-    (WaitsAt stream.needs queue.needs queue.count queue.room)
-    (BufferGives stream.yields queue.gives queue.count queue.yields queue.in_order)
-
--- a poll of the queue that takes the task from `cx` to `left`
-abbrev pub PollsWithTask : {Q A : Type 0} → (Q → Poll (Option A) → Q → Context → Context → Type 0)
-    → Context → Context → Q → Poll (Option A) → Q → Type 0
-PollsWithTask polls cx left old answer new = polls old answer new cx left
+buffer_of stream queue = record {
+  can_poll = CanDraw stream.can_poll stream.yields queue.is_fit queue.can_poll;
+  needs = WaitsAt stream.needs queue.needs queue.count queue.room;
+  yields = BufferGives stream.yields queue.gives queue.count queue.yields queue.in_order;
+}
 
 -- One call, which takes a buffer from `old` to `new` and the task from `cx` to `left`. A clause gives stream and queue
 -- by the ghost members of their types: `St.Stream Q.FutureQueue`.
@@ -261,8 +240,9 @@ pub record PollsBuffer
   pub not_polled : HasNoTurn (PollsStream stream.yields) queue.count (queue.room old.queue) old → task_then ≡ cx
   -- The call takes items, which stay held. Then either a further push returns the answer, and the task is `task_then`;
   -- or one poll of the queue returns it, and takes the task from `task_then` to `left`.
-  pub gave : CallGivesWith (PollsStream stream.yields) queue.count (queue.room old.queue)
-      queue.pushes (PollsWithTask queue.polls task_then left) (left ≡ task_then) old answer new
+  pub gave : (drawn : List X) × BufferCall (PollsStream stream.yields) queue.count (queue.room old.queue)
+      queue.pushes (λ before reply after. queue.polls before reply after task_then left) (left ≡ task_then)
+      old drawn answer new
   -- the call returns `None` only if the stream has ended and nothing is held, and `Pending` only if that is not so
   pub ended : IfReady answer (λ o. IfNone o ((new.stream ≡ None) × (queue.count new.queue ≡ 0)))
   pub waits : OnPending answer (new.stream ≡ None → 0 < queue.count new.queue)

@@ -56,16 +56,12 @@ module _
     (closure : Mut Fn (X × Unit {0}) F)
     (future : SlotFutureOf F W (Unit {0}))
   where
-    -- the closure may be called with this item, and the future that it makes may be polled
-    abbrev pub CanCall : Fn → X → Type 0
-    CanCall f x = closure.pre f (x, tt)
-        × ((made : F) (after : Fn) → Calls closure f x made after → future.can_poll made)
-
     -- The stream may be polled, unless it has ended. The closure may be called with each item to come, after the items
     -- before it, and the future that it makes may be polled. Each future that is held may be polled.
     pub record CanForEach {S : Type 0} (b : ForEach St Fn (Bounded F S)) : Type 0 where
       pub next : IfSome b.buffer.stream stream.can_poll
-      pub to_come : AtEachItem (Calls closure) (Ahead stream.yields b.buffer.stream) b.closure CanCall
+      pub to_come : AtEachItem (Calls closure) (Ahead stream.yields b.buffer.stream) b.closure
+          (λ f x. closure.pre f (x, tt) × ((made : F) (after : Fn) → Calls closure f x made after → future.can_poll made))
       pub held : AllHeld future.can_poll b.buffer.queue.slots
 
     -- What the first part of a turn leaves of a for-each.

@@ -2,7 +2,7 @@
 ghost use Rattle.std.specs.Prelude.{◌≡◌, ◌<◌, ◌≤◌, ◌↔◌, IsTrue, None, option_copied};
 ghost use Rattle.std.specs.declared.ops.ControlFlow.TheVariants.{Break};
 ghost use Rattle.futures_buffered_core.specs.Made.{MakesSlots};
-ghost use Rattle.futures_buffered.specs.Buffer.{CanPollBuffer, DrawsOne, FillsBuffer, LeavesBuffer};
+ghost use Rattle.futures_buffered.specs.Buffer.{DrawsOne, FillsBuffer, LeavesBuffer};
 ghost use Rattle.futures_buffered.specs.Buffer.{DrawingLeavesTask, buffer_of};
 ghost use Rattle.futures_buffered.specs.Buffer.{PollsBuffer, IsNewBuffer, handed_back};
 ghost use Rattle.futures_buffered.specs.Buffer.{hint_with, hint_ahead};
@@ -127,7 +127,7 @@ impl<St: Stream, Q: FutureQueue<St::Item>> Buffer<St, Q> {
     // Takes one item, if the stream has not ended, there is room, and an item comes. Breaks if no item was taken, and
     // if the push of the item returned an answer.
     fn draw_one(&mut self, cx: &mut Context<'_>) -> ControlFlow<Option<Q::Output>>
-        requires { CanPollBuffer St.Stream Q.FutureQueue self.old }
+        requires { (buffer_of St.Stream Q.FutureQueue).can_poll self.old }
         ensures draws { DrawsOne St.Stream Q.FutureQueue self.old result self.new }
         ensures buffer { LeavesBuffer St.Stream Q.FutureQueue
             self.old (handed_back result) self.new }
@@ -158,7 +158,7 @@ impl<St: Stream, Q: FutureQueue<St::Item>> Buffer<St, Q> {
     // Takes items while the stream has not ended, there is room, and an item comes. Returns the first answer that a
     // push returns, and takes no further item then.
     fn fill(&mut self, cx: &mut Context<'_>) -> Option<Q::Output>
-        requires { CanPollBuffer St.Stream Q.FutureQueue self.old }
+        requires { (buffer_of St.Stream Q.FutureQueue).can_poll self.old }
         ensures draws { FillsBuffer St.Stream Q.FutureQueue self.old result self.new }
         ensures buffer { LeavesBuffer St.Stream Q.FutureQueue self.old result self.new }
         ensures task { DrawingLeavesTask St.Stream Q.FutureQueue (result ≡ None)
@@ -176,7 +176,7 @@ impl<St: Stream, Q: FutureQueue<St::Item>> Buffer<St, Q> {
 impl<St: Stream, Q: FutureQueue<St::Item>> Stream for Buffer<St, Q> {
     type Item = Q::Output;
 
-    ghost can_poll = { CanPollBuffer St.Stream Q.FutureQueue };
+    ghost can_poll = { (buffer_of St.Stream Q.FutureQueue).can_poll };
 
     ghost needs = { (buffer_of St.Stream Q.FutureQueue).needs };
 
@@ -191,7 +191,7 @@ impl<St: Stream, Q: FutureQueue<St::Item>> Stream for Buffer<St, Q> {
     /// the source or of the set of `futures`, may. Takes time in proportion to the items taken and the ready slots
     /// dequeued, apart from the polls.
     fn poll_next(&mut self, cx: &mut Context<'_>) -> Poll<Option<Q::Output>>
-        requires { CanPollBuffer St.Stream Q.FutureQueue self.old }
+        requires { (buffer_of St.Stream Q.FutureQueue).can_poll self.old }
         ensures { PollsBuffer St.Stream Q.FutureQueue self.old result self.new cx.old cx.new }
     {
         if let Some(answer) = self.fill(cx) {
