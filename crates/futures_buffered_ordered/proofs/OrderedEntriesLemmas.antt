@@ -3,11 +3,14 @@ use Rattle.std.proofs.Common.{◌≡◌, ◌⊎◌, ℕ, ◌+◌, ◌≤◌, Lis
 use Rattle.std.specs.List.{FoldsTo, slice_get}
 use Rattle.std.proofs.lemmas.Fn.{FoldsTo-push}
 use Rattle.std.proofs.lemmas.List.{length_push}
+use Rattle.futures.specs.Task.{Covers, Keeps}
 use Rattle.futures.specs.declared.task.context.Context.{Context}
 use Rattle.futures.specs.declared.task.Poll.{Poll}
 use Rattle.futures.specs.declared.task.Poll.TheVariants.{Ready, Pending}
 use Rattle.futures.specs.Poll.{IfReady, OnPending}
 use Rattle.futures.specs.Runs.{Runs, After, Within, Chains, Leads, Ends}
+use Rattle.futures_buffered_unordered.specs.StreamAnswers.{StreamAnswers, stream_of}
+use Rattle.futures_buffered_unordered.proofs.StreamAnswersLemmas.{answers_of}
 use Rattle.futures_buffered_ordered.specs.OrderedEntries.{Ordered, AddsBack, AddsEachBack, AddsFront, SetYields, LastStep, OrderedGives, BesideTask, with_task, InTurn, EntryGives, ComesInOrder, IsUnused, runs_with, starts_running}
 use Rattle.futures_buffered_ordered.specs.declared.ordered_entries.Entry.{Entry}
 use Rattle.futures_buffered_ordered.specs.declared.ordered_entries.Entry.TheVariants.{Running, Kept}
@@ -139,6 +142,10 @@ module _ {Q A : Type 0} (gives : Q → Poll (Option (ℕ × A)) → Q → Type 0
         (InTurn-Within before after h.before.entries h.before.entries
         (Narrows-all before after h.before.entries (entry_less h.before.set new.set Pending h.last_step.1))
         xs last (subst (λ (l : List (Entry A)). InTurn after l xs last) h.last_step.2 k))
+
+    -- what `futures` asks of a poll of the queue
+    pub queue_answers : (can_poll : Ordered Q A → Type 0) (needs : Ordered Q A → ℕ → Type 0) (answer : Poll (Option A)) (cx left : Context) → OrderedGives gives count old answer new → can_poll new → OnPending answer (Covers left (needs new)) → Keeps cx left → StreamAnswers (stream_of can_poll needs (ComesInOrder may_give)) old answer new cx left
+    queue_answers can_poll needs answer cx left h pollable covered kept = answers_of _ old new answer cx left (value_of answer h) (rest_of answer h) (same_of answer h) pollable covered kept
 
 no_start : {A : Type 0} (es : List (Entry A)) → length es ≡ 0 → starts_running es ≡ true → ⊥
 no_start [] none runs = cc
