@@ -1,10 +1,11 @@
 -- How items that an iterator gives go into a new set in flight, each in the slot of its place.
-use Rattle.std.proofs.Common.{◌≡◌, ◌≢◌, ◌<◌, ◌≤◌, ℕ, zero, suc, Bool, true, false, ◌+◌, ◌-◌, List, [], ◌∷◌, ◌++◌, length, get_or, Option, Some, None, is_some, All, refl, sym, ap, ap₂, subst, ◌∙◌, inl, inr, arith, length-set, slice_get}
-use Rattle.std.specs.List.{FoldsTo, range_with_len, count_by}
-use Rattle.std.specs.Prelude.{max, replicate}
+use Rattle.std.proofs.Common.{◌≡◌, ◌≢◌, ◌<◌, ◌≤◌, ℕ, zero, suc, Bool, true, false, ◌+◌, ◌-◌, List, [], ◌∷◌, ◌++◌, length, get_or, Option, Some, None, All, refl, sym, ap, ap₂, subst, ◌∙◌, inl, inr, arith, length-set, slice_get}
+use Rattle.std.specs.List.{FoldsTo, range_with_len}
+use Rattle.std.specs.Prelude.{max}
 use Rattle.std.specs.Iterator.{Drains, YieldsThen}
-use Rattle.std.proofs.lemmas.List.{get_or-set_same, get_or-set_other, length-append, length-replicate, length_push}
-use Rattle.std.proofs.lemmas.Bool.{cases_eq}
+use Rattle.std.proofs.lemmas.List.{get_or-set_other, length-append, length-replicate, length_push}
+use Rattle.std.proofs.lemmas.Bool.{cases_eq, true≢false}
+use Rattle.std.proofs.lemmas.Option.{same_Some}
 use Rattle.futures_buffered_table.specs.declared.answer.TheConstants.{MAX_CAPACITY}
 use Rattle.futures_buffered_core.specs.Drawn.{Items, Draws}
 use Rattle.futures_buffered_core.specs.SlotMap.{Slots, value_in, held_count, slot_count}
@@ -13,21 +14,9 @@ use Rattle.futures_buffered_unordered.proofs.HeldGivesLemmas.{None-Some}
 use Rattle.futures_buffered_in_flight.specs.InFlight.{FutureOf, Flights, CanPollAll, IsNewInFlight, KeyGives, SlotGives, EntersAt, FliesInOrder, flight_slots, room_taken}
 use Rattle.futures_buffered_in_flight.specs.InFlightOrdered.{EntersBack, HoldsInTurn, IsNewInOrder, OrderedInFlight, ordered_room}
 use Rattle.futures_buffered_in_flight.specs.InFlightQueue.{KeepsRoom}
-use Rattle.futures_buffered_in_flight.proofs.InFlightLemmas.{true-false}
+use Rattle.futures_buffered_in_flight.proofs.InFlightQueueLemmas.{its_place, none_held}
 use Rattle.futures_buffered_in_flight.specs.declared.in_flight.Place.{Place}
 use Rattle.futures_buffered_in_flight.specs.declared.run.Key.{Key}
-
-Some-same : {F : Type 0} {f g : F} → Some f ≡ Some g → f ≡ g
-Some-same e = cc
-
-same_head : {x y : ℕ} {xs ys : List ℕ} → x ∷ xs ≡ y ∷ ys → x ≡ y
-same_head e = cc
-
-same_tail : {x y : ℕ} {xs ys : List ℕ} → x ∷ xs ≡ y ∷ ys → xs ≡ ys
-same_tail e = cc
-
-no_head : {x : ℕ} {xs : List ℕ} → x ∷ xs ≡ [] → ⊥
-no_head e = cc
 
 -- each of the items that came from an iterator is one that may come
 all_drawn : {S A : Type 0} (steps : S → Option A → S → Type 0) (P : A → Type 0) (it : S) (items : List A) → Drains steps it items
@@ -54,10 +43,6 @@ get_push_other [] f g (suc k) got other = got
 get_push_other (x ∷ xs) f g zero got other = got
 get_push_other (x ∷ xs) f g (suc k) got other = get_push_other xs f g k got (λ same. other (ap suc same))
 
-none_held : (n : ℕ) → count_by is_some (replicate {A = Option (Place (Unit {0}))} n None) ≡ 0
-none_held zero = refl
-none_held (suc n) = none_held n
-
 module _ {F O : Type 0} (future : FutureOf F O) where
   -- these went in so far, of n, each in the slot of its place
   pub record PushedSoFar (n : ℕ) (xs : List F) (held : Flights F (Unit {0})) : Type 0 where
@@ -73,7 +58,7 @@ module _ {F O : Type 0} (future : FutureOf F O) where
       record {
         as_many = ap (λ (s : Slots (Place (Unit {0}))). slot_count s) new.0 ∙ length-replicate n None;
         free = ap (λ (s : Slots (Place (Unit {0}))). s.free) new.0 ∙ ap (range_with_len 0) (omega arith);
-        all_wait = ap (λ (s : Slots (Place (Unit {0}))). held_count s) new.0 ∙ none_held n;
+        all_wait = ap (λ (s : Slots (Place (Unit {0}))). held_count s) new.0 ∙ none_held (Place (Unit {0})) n;
         own = λ k item x got h. absurd (None-Some got);
         none_cancelled = new.3;
         again = can;
@@ -83,12 +68,9 @@ module _ {F O : Type 0} (future : FutureOf F O) where
   pub pushed_one : (n : ℕ) (xs : List F) (f : F) (key : Key) (old new : Flights F (Unit {0})) → PushedSoFar n xs old → EntersAt future old f tt key new → PushedSoFar n (xs ++ f ∷ []) new
   pushed_one n xs f key old new so p = by_left (n - length xs) refl
     where
-      holds : value_in new.slots key.slot ≡ Some (record { tag = tt; push = key.push })
-      holds = ap (λ ps. get_or ps key.slot None) p.went_in.now_held ∙ get_or-set_same old.slots.places key.slot (Some (record { tag = tt; push = key.push })) None p.went_in.within
-
       its_own : (k : ℕ) (x : O) → k ≡ key.slot → SlotGives future new k x → future.gives f x
       its_own k x same h =
-          let place : h.0 ≡ record { tag = tt; push = key.push } = Some-same (sym h.1 ∙ (ap (λ i. value_in new.slots i) same ∙ holds)) in
+          let place : h.0 ≡ record { tag = tt; push = key.push } = same_Some _ _ (sym h.1 ∙ (ap (λ i. value_in new.slots i) same ∙ its_place future old new f tt key p)) in
           let at : record { slot = k; push = h.0.push } ≡ key = ap₂ (λ (slot push : ℕ). record { slot = slot; push = push }) same (ap (λ (p : Place (Unit {0})). p.push) place) in
           p.own x (subst (λ (key : Key). KeyGives future new key x) at h.2)
 
@@ -100,19 +82,22 @@ module _ {F O : Type 0} (future : FutureOf F O) where
           ]
 
       by_left : (m : ℕ) → n - length xs ≡ m → PushedSoFar n (xs ++ f ∷ []) new
-      by_left zero left = absurd (no_head (sym p.went_in.first_free ∙ (so.free ∙ ap (range_with_len (length xs)) left)))
+      by_left zero left =
+          let none : key.slot ∷ new.slots.free ≡ [] = sym p.went_in.first_free ∙ (so.free ∙ ap (range_with_len (length xs)) left) in
+          absurd (cc)
       by_left (suc m) left =
           let free : key.slot ∷ new.slots.free ≡ length xs ∷ range_with_len (length xs + 1) m = sym p.went_in.first_free ∙ (so.free ∙ ap (range_with_len (length xs)) left) in
-          let at : key.slot ≡ length xs = same_head free in
+          let at : key.slot ≡ length xs = cc in
+          let others_free : new.slots.free ≡ range_with_len (length xs + 1) m = cc in
           let more : length (xs ++ f ∷ []) ≡ length xs + 1 = length_push xs f in
           let fewer : m ≡ n - length (xs ++ f ∷ []) = omega (arith, more, left) in
           record {
             as_many = ap length p.went_in.now_held ∙ (length-set old.slots.places key.slot _ ∙ so.as_many);
-            free = same_tail free ∙ ap₂ range_with_len (sym more) fewer;
+            free = others_free ∙ ap₂ range_with_len (sym more) fewer;
             all_wait = omega (arith, p.one_more, so.all_wait, more);
             own = λ k item x got h. elim (cases_eq k key.slot) [
               | inl same ↦
-                  let is : f ≡ item = Some-same (sym (get_push_last xs f) ∙ (ap (slice_get (xs ++ f ∷ [])) (sym (same ∙ at)) ∙ got)) in
+                  let is : f ≡ item = same_Some _ _ (sym (get_push_last xs f) ∙ (ap (slice_get (xs ++ f ∷ [])) (sym (same ∙ at)) ∙ got)) in
                   subst (λ (g : F). future.gives g x) is (its_own k x same h)
               | inr other ↦ others k item x other (get_push_other xs f item k got (λ same. other (same ∙ sym at))) h
             ];
@@ -147,7 +132,7 @@ module _ {F A : Type 0} where
 
   -- so a bounded queue has as many slots as the new queue
   pub few_slots : (grows : Bool) (n : ℕ) (start q : OrderedInFlight F A) → IsNewInOrder n start → n ≤ MAX_CAPACITY → KeepsRoom grows start.set q.set → grows ≡ false → ordered_room q ≤ MAX_CAPACITY
-  few_slots true n start q new few same bounded = absurd (true-false bounded)
+  few_slots true n start q new few same bounded = absurd (true≢false bounded)
   few_slots false n start q new few same bounded = omega (arith, new_room n start new, few, same)
 
   pub none_pushed : (n : ℕ) (q : OrderedInFlight F A) → IsNewInOrder n q → length q.entries ≡ 0

@@ -1,9 +1,10 @@
 -- What may come from the kit's set, from the futures that wait and from the slots, and what each call leaves of the set.
 use Rattle.std.proofs.Common.{◌≡◌, ◌<◌, ◌≤◌, ℕ, ◌+◌, ◌-◌, ◌^◌, List, [], ◌∷◌, ◌++◌, Option, Some, None, IfSome, is_some, count_by, cond, length, length-set, zero, suc, Bool, true, false, ap, refl, sym, subst, ◌∙◌, ◌⊎◌, inl, inr, arith}
 use Rattle.std.specs.Prelude.{Ok, Err, min}
-use Rattle.std.proofs.lemmas.Bool.{cases_eq}
+use Rattle.std.proofs.lemmas.Bool.{cases_eq, false≢true}
 use Rattle.std.proofs.lemmas.List.Sums.{sum_by-cons}
 use Rattle.std.proofs.lemmas.List.{length_push}
+use Rattle.futures.proofs.SentLemmas.{AllByRecursion-push}
 use Rattle.futures.specs.Runs.{After, Within}
 use Rattle.futures.specs.Queued.{AnyGives, Gathers, GivesNoMore, AllPollable, set_places, set_len}
 use Rattle.futures.specs.declared.stream.futures_unordered.FuturesUnordered.{FuturesUnordered}
@@ -62,9 +63,6 @@ module _ {F : Type 0} where
   started_still old new asked left same keeps (inl none) = inl (same ∙ none)
   started_still old new asked left same keeps (inr woken) = inr (woken_still asked left keeps woken)
 
-pub true-false : true ≡ false → ⊥
-true-false e = cc
-
 -- a set that made room has made as many pushes as before
 pub used_still : {F T : Type 0} (old wide : Flights F T) → MakesRoom old wide → IsUsedUp old → IsUsedUp wide
 used_still old wide (inl same) used = let e = ap (λ (s : Flights _ _). s.next) same.1 in omega (arith, e, used)
@@ -76,10 +74,6 @@ module _ {F A : Type 0} (future : FutureOf F A) where
   any_push [] w came (inr none) = absurd none
   any_push (v ∷ ws) w came (inl first) = inl (inl first)
   any_push (v ∷ ws) w came (inr more) = elim (any_push ws w came more) [ inl was ↦ inl (inr was) | inr own ↦ inr own ]
-
-  push_all : (ws : List (Waits F)) (w : Waits F) → CanPollWaiting future ws → future.can_poll w.future → CanPollWaiting future (ws ++ w ∷ [])
-  push_all [] w all fit = (fit, tt)
-  push_all (v ∷ ws) w all fit = (all.0, push_all ws w all.1 fit)
 
 module _ {F A T : Type 0} (future : FutureOf F A) where
   -- what a slot may give after a poll, it might give before
@@ -148,7 +142,7 @@ module _ {F A T : Type 0} (future : FutureOf F A) where
   left_waiting old new value waits fit each refused no_more slots next cancelled at_end =
       record {
         running = each;
-        waiting = subst (λ ws. CanPollWaiting future ws) (sym at_end) (push_all future old.waiting value waits fit);
+        waiting = subst (λ ws. CanPollWaiting future ws) (sym at_end) (AllByRecursion-push (λ (w : Waits F). future.can_poll w.future) old.waiting value fit waits);
         gives = λ came g. elim g [
           | inl run ↦ inl (inl (refused came run))
           | inr wait ↦ elim (any_push future old.waiting value came (subst (λ ws. AnyWaitGives future ws came) at_end wait)) [ inl was ↦ inl (inr was) | inr own ↦ inr own ]
@@ -237,10 +231,10 @@ module _ {F A T : Type 0} (future : FutureOf F A) where
         went_in = subst (λ s. EntersAt future s f tag key new) (same refl) p;
         back = tt;
         full = λ full. absurd (has (subst (λ (s : Flights F T). HasNoRoom s) (sym (same refl)) full));
-        room = λ e. absurd (true-false (sym e));
+        room = λ e. absurd (false≢true e);
       }
   admitted true old wide new f tag given key made same has p =
-      record { went_in = (wide, made, p); back = tt; full = λ used. absurd (has (inr (used_still old wide made used))); room = λ e. absurd (true-false (sym e)) }
+      record { went_in = (wide, made, p); back = tt; full = λ used. absurd (has (inr (used_still old wide made used))); room = λ e. absurd (false≢true e) }
 
   -- there was no room
   pub turned_away : {B : Type 0} (grows : Bool) (old new : Flights F T) (f : F) (tag : T) (given : B) → HasNoRoom old → new ≡ old → PushesInFlight future grows old f tag given (Err given) new

@@ -2,6 +2,7 @@
 use Rattle.std.proofs.Common.{◌≡◌, ◌<◌, ◌≤◌, ◌^◌, ℕ, Bool, true, false, List, [], ◌∷◌, length, cond, is_some, Option, Some, None, ◌⊎◌, inl, inr, refl, sym, ap, ◌∙◌, arith}
 use Rattle.std.specs.List.{FoldsTo}
 use Rattle.std.specs.Prelude.{Result, Ok, Err, OnOk, IfErr, IsErr}
+use Rattle.std.proofs.lemmas.Bool.{false≢true, true≢false}
 use Rattle.std.proofs.lemmas.List.{length-replicate}
 use Rattle.std.proofs.lemmas.List.Folds.{sum_by-replicate}
 use Rattle.futures.specs.declared.task.Poll.{Poll}
@@ -22,7 +23,6 @@ use Rattle.futures_buffered_in_flight.specs.InFlight.{Flights, FutureOf, IsNewIn
 use Rattle.futures_buffered_in_flight.specs.InFlightQueue.{CanPollQueue, HasGrown, MayRefuseNumber, NumberGives, OfSomeTask, PollsByNumber, RefusesNumbers, SameRoom, TakesNumber, has_tag, flight_count, flights_with}
 use Rattle.futures_buffered_in_flight.specs.InFlightOrdered.{AnswersInTurn, CanPollOrdered, ComesOfEach, EntersBack, EntersFront, FitsSlots, GivesInTurn, HasPlaces, IsCleared, KeepsInOrder, MayRefuseFuture, OrderedInFlight, OrderedIsFull, OrderedWaitsAt, PushesInTurn, PushesOrComesBack, RefusesFutures, flying_polls}
 use Rattle.futures_buffered_in_flight.specs.declared.in_flight.Place.{Place}
-use Rattle.futures_buffered_in_flight.proofs.InFlightLemmas.{true-false}
 use Rattle.futures_buffered_in_flight.proofs.InFlightQueueLemmas.{number_counts, tagged_with, taken_again, taken_gives, taken_room}
 
 -- free slots, no entry, and a place for an entry of each slot
@@ -72,10 +72,10 @@ module _ {F A : Type 0} (future : FutureOf F A) where
     empty = (grind arith);
     fewer = (grind arith);
     numbers = p.numbers;
-    set = omega (arith, p.same_room);
-    covered = p.registered;
-    kept = p.kept;
-    pollable = p.again;
+    set = omega (arith, p.held.same_room);
+    covered = p.held.registered;
+    kept = p.held.kept;
+    pollable = p.held.again;
   }
 
   -- one poll of the futures, told of the queue alone
@@ -84,10 +84,10 @@ module _ {F A : Type 0} (future : FutureOf F A) where
 
   -- what was given might be given, and what may still be given might be given before
   gave : (old new : Flights F ℕ) (out : ℕ × A) → Gave old (Ready (Some out)) new → NumberGives future old out
-  gave old new out p = p.2.gave.0
+  gave old new out p = p.2.held.gave.0
 
   still : (old new : Flights F ℕ) (answer : Poll (Option (ℕ × A))) → Gave old answer new → (out : ℕ × A) → NumberGives future new out → NumberGives future old out
-  still old new answer p = p.2.narrows
+  still old new answer p = p.2.held.narrows
 
   -- no future may give an output with a number that no entry has
   none_with : (old : Numbering (Flights F ℕ) A) (i : ℕ) → IsNumbered flights_with flight_count old → IsUnused i old.queue.entries → (y : A) → NumberGives future old.queue.set (i, y) → ⊥
@@ -133,13 +133,13 @@ module _ {F A : Type 0} (future : FutureOf F A) where
           → (QueueIsAtBound (RefusesNumbers grows) old.queue → IsErr result) → CanPollQueue future new.set
           → PushesOrComesBack future grows Enters old.queue item result new
       pushed new (Ok u) fewer enters added back large again =
-          record { went_in = enters added; back = tt; room = λ e. absurd (true-false (sym e)); full = λ refuses. large (inr (set_refuses grows old.queue fewer refuses)); again = again }
+          record { went_in = enters added; back = tt; room = λ e. absurd (false≢true e); full = λ refuses. large (inr (set_refuses grows old.queue fewer refuses)); again = again }
       pushed new (Err b) fewer enters added back large again =
           record { went_in = tt; back = (back.same, back.stays); room = λ _. may_refuse grows old keeps fewer back.may_refuse; full = λ _. refl; again = again }
 
   -- a push into a bounded queue that is full
   pub refused : (grows : Bool) (pushes : OrderedInFlight F A → F → OrderedInFlight F A → Type 0) (q : OrderedInFlight F A) (item : F) → grows ≡ false → OrderedIsFull q → CanPollOrdered future q → PushesOrComesBack future grows pushes q item (Err item) q
-  refused true pushes q item bounded full can = absurd (true-false bounded)
+  refused true pushes q item bounded full can = absurd (true≢false bounded)
   refused false pushes q item bounded full can = record { went_in = tt; back = (refl, refl); room = λ _. full; full = λ _. refl; again = can }
 
   -- one poll, told of the queue alone
@@ -152,17 +152,17 @@ module _ {F A : Type 0} (future : FutureOf F A) where
   -- the last poll of the futures says who is woken
   wakes : {keeps : Flights F ℕ → Flights F ℕ → Type 0} (old new : OrderedInFlight F A) (answer : Poll (Option A)) (cx after : Context) → PollsOrdered flight_count keeps (flying_polls future) old answer new cx after → OnPending answer ((new.set.waiting ≡ []) ⊎ IsWoken after)
   wakes old new (Ready o) cx after poll = tt
-  wakes old new Pending cx after poll = poll.gave.last_step.1.started
+  wakes old new Pending cx after poll = poll.gave.last_step.1.held.started
 
   -- polls keep the number of slots
   row_room : (outs : List (ℕ × A)) (old before : OrderedInFlight F A) → FoldsTo (SetYields Gave) old outs before → SameRoom old.set before.set
   row_room [] old before h = ap (λ (q : OrderedInFlight F A). flight_slots q.set) (sym h)
-  row_room (out ∷ outs) old before h = row_room outs h.0 before h.2 ∙ h.1.gave.2.same_room
+  row_room (out ∷ outs) old before h = row_room outs h.0 before h.2 ∙ h.1.gave.2.held.same_room
 
   poll_room : (old new : OrderedInFlight F A) (answer : Poll (Option A)) → GivesInTurn future old answer new → SameRoom old.set new.set
   poll_room old new (Ready None) h = ap (λ (q : OrderedInFlight F A). flight_slots q.set) h.last_step.1 ∙ row_room h.yielded old h.before h.row
   poll_room old new (Ready (Some x)) h = ap (λ (s : Flights F ℕ). flight_slots s) h.last_step.1 ∙ row_room h.yielded old h.before h.row
-  poll_room old new Pending h = h.last_step.1.2.same_room ∙ row_room h.yielded old h.before h.row
+  poll_room old new Pending h = h.last_step.1.2.held.same_room ∙ row_room h.yielded old h.before h.row
 
   fits_still : (grows : Bool) (old new : OrderedInFlight F A) → (grows ≡ false → HasPlaces old) → length new.entries ≤ length old.entries → SameRoom old.set new.set → FitsSlots grows new
   fits_still true old new places fewer same = tt

@@ -1,22 +1,24 @@
 -- What a push and a poll leave of a set of futures in flight of which none is cancelled.
-use Rattle.std.proofs.Common.{count_by, get_or, length-set, set, ◌≡◌, ◌+◌, ◌<◌, ◌++◌, ℕ, zero, suc, Bool, true, false, cond, List, [], ◌∷◌, length, IsSome, is_some, Option, Some, None, refl, sym, subst, ap, ap₂, ◌∙◌, ◌⊎◌, inl, inr, arith}
+use Rattle.std.proofs.Common.{count_by, get_or, length-set, set, ◌≡◌, ◌+◌, ◌<◌, ◌≤◌, ◌++◌, ℕ, zero, suc, Bool, true, false, cond, List, [], ◌∷◌, length, IsSome, is_some, Option, Some, None, refl, sym, subst, ap, ap₂, ◌∙◌, ◌⊎◌, inl, inr, arith}
 use Rattle.std.specs.List.{sum_by}
 use Rattle.std.specs.Prelude.{replicate}
 use Rattle.std.proofs.lemmas.List.{get_or-set_same, get_or-set_other, length-replicate, length_push}
 use Rattle.std.proofs.lemmas.List.Sums.{get_or-le-sum_by, sum_by-append, sum_by-set}
-use Rattle.std.proofs.lemmas.Bool.{cases_eq, eq-eqb}
+use Rattle.std.proofs.lemmas.Option.{same_Some}
+use Rattle.std.proofs.lemmas.Bool.{cases_eq, eq-eqb, false≢true, true≢false}
+use Rattle.futures.proofs.EventLemmas.{get_or-push_default}
 use Rattle.futures.specs.declared.task.Poll.TheVariants.{Ready, Pending}
 use Rattle.futures.specs.declared.task.context.Context.{Context}
 use Rattle.futures_buffered_core.specs.SlotMap.{Slots, value_in, held_count, slot_count, with_slot_freed, Inserts}
 use Rattle.futures_buffered_core.proofs.SlotMapLemmas.{value_within}
 use Rattle.futures_buffered_unordered.proofs.HeldGivesLemmas.{value_in-with_slot_freed, value_in-with_slot_freed_other, None-Some}
 use Rattle.futures_buffered_ordered.specs.Numbered.{PushesInto, one_at}
-use Rattle.futures_buffered_in_flight.specs.InFlight.{FutureOf, Flights, AnyRunGives, AnyWaitGives, CanPollAll, IsNewInFlight, KeyGives, Enters, EntersAt, FlightsGiveNoMore, HasNoRoom, IsUsedUp, MakesRoom, MakesSlot, PollsInFlight, flight_slots}
-use Rattle.futures_buffered_in_flight.specs.InFlightQueue.{CanPollQueue, HasGrown, IsAtItsBound, KeepsRoom, MayRefuseNumber, NumberGives, PollsByNumber, PollsQueued, PushesQueued, QueuesNumber, RefusesNumbers, SameRoom, TakesNumber, flight_count, flights_with, has_tag}
+use Rattle.futures_buffered_in_flight.specs.InFlight.{FutureOf, Flights, AnyRunGives, AnySlotGives, AnyWaitGives, CanPollAll, IsNewInFlight, KeyGives, Enters, EntersAt, FlightsGiveNoMore, HasNoRoom, IsUsedUp, MakesRoom, MakesSlot, PollsInFlight, flight_slots}
+use Rattle.futures_buffered_in_flight.specs.InFlightQueue.{CanPollQueue, HasGrown, IsAtItsBound, KeepsRoom, MayRefuseNumber, NumberGives, PollsByNumber, PollsHeld, PollsQueued, PushesQueued, QueuesNumber, RefusesNumbers, SameRoom, TakesNumber, flight_count, flights_with, has_tag}
 use Rattle.futures_buffered_in_flight.specs.declared.in_flight.Came.{Came}
 use Rattle.futures_buffered_in_flight.specs.declared.in_flight.Place.{Place}
 use Rattle.futures_buffered_in_flight.specs.declared.run.Key.{Key}
-use Rattle.futures_buffered_in_flight.proofs.InFlightLemmas.{any, same_slots, slots_after, slots_within, true-false, wide_can_poll}
+use Rattle.futures_buffered_in_flight.proofs.InFlightLemmas.{any, same_slots, slots_after, slots_within, wide_can_poll}
 
 one_self : (i : ℕ) → one_at i i ≡ 1
 one_self i = ap (λ (b : Bool). cond b 1 0) (eq-eqb i i refl)
@@ -48,12 +50,9 @@ module _ (i : ℕ) where
       let own : in_slot (get_or m.places s None) ≡ 1 = ap in_slot holds ∙ one_self i in
       omega (arith, own, get_or-le-sum_by in_slot m.places s None (there m s _ holds))
 
-Some-same : {P : Type 0} {a b : P} → Some a ≡ Some b → a ≡ b
-Some-same e = cc
-
 module _ {F A T : Type 0} (future : FutureOf F A) where
   -- what holds the future that was pushed
-  its_place : (old new : Flights F T) (f : F) (tag : T) (key : Key) → EntersAt future old f tag key new → value_in new.slots key.slot ≡ Some (record { tag = tag; push = key.push })
+  pub its_place : (old new : Flights F T) (f : F) (tag : T) (key : Key) → EntersAt future old f tag key new → value_in new.slots key.slot ≡ Some (record { tag = tag; push = key.push })
   its_place old new f tag key p =
       ap (λ ps. get_or ps key.slot None) p.went_in.now_held ∙ get_or-set_same old.slots.places key.slot (Some (record { tag = tag; push = key.push })) None p.went_in.within
 
@@ -63,7 +62,7 @@ module _ {F A T : Type 0} (future : FutureOf F A) where
   held_or_pushed old new f tag key p slot place x holds gives =
       elim (cases_eq slot key.slot) [
         | inl same ↦
-            let is : place ≡ record { tag = tag; push = key.push } = Some-same (sym holds ∙ (ap (λ i. value_in new.slots i) same ∙ its_place old new f tag key p)) in
+            let is : place ≡ record { tag = tag; push = key.push } = same_Some _ _ (sym holds ∙ (ap (λ i. value_in new.slots i) same ∙ its_place old new f tag key p)) in
             let at_key : record { slot = slot; push = place.push } ≡ key = ap₂ (λ (slot push : ℕ). record { slot = slot; push = push }) same (ap (λ (place : Place T). place.push) is) in
             inr (ap (λ (place : Place T). place.tag) is, p.own x (subst (λ (k : Key). KeyGives future new k x) at_key gives))
         | inr other ↦ elim (p.others _ gives) [
@@ -98,76 +97,63 @@ module _ {F A T : Type 0} (future : FutureOf F A) where
   room_after : (old new : Flights F T) (slot : ℕ) → new.slots ≡ with_slot_freed old.slots slot → SameRoom old new
   room_after old new slot freed = ap (λ (s : Slots (Place T)). length s.places) freed ∙ length-set old.slots.places slot None
 
-  -- a set after a poll that gave an output
-  can_after_output : (old new : Flights F T) (came : Came A T) (cx left : Context) → CanPollQueue future old → PollsInFlight future old (Ready (Some came)) new cx left → CanPollQueue future new
-  can_after_output old new came cx left can p =
-      let same = room_after old new came.key.slot p.gave.freed in
-      record {
-        each = p.again;
-        none_cancelled = omega (arith, p.room, can.none_cancelled);
-        some = omega (arith, same, can.some);
-        bound = omega (arith, same, can.bound, p.gave.fewer);
-      }
+module _ {F A T B : Type 0} (future : FutureOf F A) (may_give : Flights F T → B → Type 0) where
+  -- a poll that gave an output, `None`, and a pending poll; `narrows` says that the set gives no more than before
+  abbrev Narrows : Flights F T → Flights F T → Type 0
+  Narrows old new = (x : B) → may_give new x → may_give old x
 
-  -- a set after a pending poll
-  can_after_pending : (old new : Flights F T) (cx left : Context) → CanPollQueue future old → PollsInFlight future old Pending new cx left → CanPollQueue future new
-  can_after_pending old new cx left can p =
-      let same = ap slot_count p.gave.1 in
-      let as_many = ap held_count p.gave.1 in
+  gave_output : (old new : Flights F T) (came : Came A T) (x : B) (cx left : Context) → CanPollQueue future old → may_give old x → Narrows old new → PollsInFlight future old (Ready (Some came)) new cx left → PollsHeld future may_give old (Ready (Some x)) new cx left
+  gave_output old new came x cx left can gives narrows p =
+      let same = room_after future old new came.key.slot p.gave.freed in
+      let some : 0 < flight_slots new = omega (arith, same, can.some) in
+      let bound : flight_count new ≤ flight_slots new = omega (arith, same, can.bound, p.gave.fewer) in
       record {
-        each = p.again;
-        none_cancelled = omega (arith, p.room, can.none_cancelled);
-        some = omega (arith, same, can.some);
-        bound = omega (arith, same, as_many, can.bound);
-      }
-
-  pub polled_output : (old new : Flights F T) (came : Came A T) (cx left : Context) → CanPollQueue future old → PollsInFlight future old (Ready (Some came)) new cx left → PollsQueued future old (Ready (Some came.output)) new cx left
-  polled_output old new came cx left can p =
-      let again = can_after_output old new came cx left can p in
-      record {
-        gave = (any future old new came p.gave, p.gave.fewer);
-        narrows = slots_after future old new came.key.slot p.gave.freed p.narrows;
-        same_room = room_after old new came.key.slot p.gave.freed;
-        some = again.some;
-        bound = again.bound;
+        gave = (gives, p.gave.fewer);
+        narrows = narrows;
+        same_room = same;
+        some = some;
+        bound = bound;
         registered = tt;
         started = p.started;
         kept = p.kept;
-        again = again;
+        again = record { each = p.again; none_cancelled = omega (arith, p.room, can.none_cancelled); some = some; bound = bound };
       }
 
-  pub ended : (old new : Flights F T) (cx left : Context) → CanPollQueue future old → PollsInFlight future old (Ready None) new cx left → PollsQueued future old (Ready None) new cx left
-  ended old new cx left can p =
+  gave_none : (old new : Flights F T) (cx left : Context) → CanPollQueue future old → Narrows old new → PollsInFlight future old (Ready None) new cx left → PollsHeld future may_give old (Ready None) new cx left
+  gave_none old new cx left can narrows p =
       let same : new ≡ old = p.gave.3 can.none_cancelled in
       let again : CanPollQueue future new = subst (λ s. CanPollQueue future s) (sym same) can in
-      record {
-        gave = (p.gave.0, same);
-        narrows = slots_within future old new p.gave.1 p.narrows;
-        same_room = ap slot_count p.gave.1;
-        some = again.some;
-        bound = again.bound;
-        registered = tt;
-        started = p.started;
-        kept = p.kept;
-        again = again;
-      }
+      record { gave = (p.gave.0, same); narrows = narrows; same_room = ap slot_count p.gave.1; some = again.some; bound = again.bound; registered = tt; started = p.started; kept = p.kept; again = again }
 
-  pub pending : (old new : Flights F T) (cx left : Context) → CanPollQueue future old → PollsInFlight future old Pending new cx left → PollsQueued future old Pending new cx left
-  pending old new cx left can p =
-      let again = can_after_pending old new cx left can p in
+  gave_nothing : (old new : Flights F T) (cx left : Context) → CanPollQueue future old → Narrows old new → PollsInFlight future old Pending new cx left → PollsHeld future may_give old Pending new cx left
+  gave_nothing old new cx left can narrows p =
+      let same = ap slot_count p.gave.1 in
+      let as_many = ap held_count p.gave.1 in
+      let some : 0 < flight_slots new = omega (arith, same, can.some) in
+      let bound : flight_count new ≤ flight_slots new = omega (arith, same, as_many, can.bound) in
       record {
-        gave = (p.gave.0, ap held_count p.gave.1);
-        narrows = slots_within future old new p.gave.1 p.narrows;
-        same_room = ap slot_count p.gave.1;
-        some = again.some;
-        bound = again.bound;
+        gave = (p.gave.0, as_many);
+        narrows = narrows;
+        same_room = same;
+        some = some;
+        bound = bound;
         registered = p.registered;
         started = p.started;
         kept = p.kept;
-        again = again;
+        again = record { each = p.again; none_cancelled = omega (arith, p.room, can.none_cancelled); some = some; bound = bound };
       }
 
-none_held : (P : Type 0) (n : ℕ) → count_by is_some (replicate {A = Option P} n None) ≡ 0
+module _ {F A T : Type 0} (future : FutureOf F A) where
+  pub polled_output : (old new : Flights F T) (came : Came A T) (cx left : Context) → CanPollQueue future old → PollsInFlight future old (Ready (Some came)) new cx left → PollsQueued future old (Ready (Some came.output)) new cx left
+  polled_output old new came cx left can p = gave_output future (AnySlotGives future) old new came came.output cx left can (any future old new came p.gave) (slots_after future old new came.key.slot p.gave.freed p.narrows) p
+
+  pub ended : (old new : Flights F T) (cx left : Context) → CanPollQueue future old → PollsInFlight future old (Ready None) new cx left → PollsQueued future old (Ready None) new cx left
+  ended old new cx left can p = gave_none future (AnySlotGives future) old new cx left can (slots_within future old new p.gave.1 p.narrows) p
+
+  pub pending : (old new : Flights F T) (cx left : Context) → CanPollQueue future old → PollsInFlight future old Pending new cx left → PollsQueued future old Pending new cx left
+  pending old new cx left can p = gave_nothing future (AnySlotGives future) old new cx left can (slots_within future old new p.gave.1 p.narrows) p
+
+pub none_held : (P : Type 0) (n : ℕ) → count_by is_some (replicate {A = Option P} n None) ≡ 0
 none_held P zero = refl
 none_held P (suc n) = none_held P n
 
@@ -212,59 +198,24 @@ module _ {F A : Type 0} (future : FutureOf F A) where
 
   pub number_came : (old new : Flights F ℕ) (came : Came A ℕ) (cx left : Context) → CanPollQueue future old → PollsInFlight future old (Ready (Some came)) new cx left → PollsByNumber future old (Ready (Some (came.tag, came.output))) new cx left
   number_came old new came cx left can p =
-      let again = can_after_output future old new came cx left can p in
       record {
-        gave = ((came.key.slot, came.key.push, p.gave.was_held, p.gave.gave), p.gave.fewer);
+        held = gave_output future (NumberGives future) old new came (came.tag, came.output) cx left can (came.key.slot, came.key.push, p.gave.was_held, p.gave.gave) (numbers_after old new came.key.slot p.gave.freed p.narrows) p;
         numbers = λ i. omega (arith, ap (λ slots. tagged_with i slots) p.gave.freed, tags_freed i old.slots came.key.slot _ p.gave.was_held);
-        narrows = numbers_after old new came.key.slot p.gave.freed p.narrows;
-        same_room = room_after future old new came.key.slot p.gave.freed;
-        some = again.some;
-        bound = again.bound;
-        registered = tt;
-        started = p.started;
-        kept = p.kept;
-        again = again;
       }
 
   pub number_ended : (old new : Flights F ℕ) (cx left : Context) → CanPollQueue future old → PollsInFlight future old (Ready None) new cx left → PollsByNumber future old (Ready None) new cx left
   number_ended old new cx left can p =
-      let same : new ≡ old = p.gave.3 can.none_cancelled in
-      let again : CanPollQueue future new = subst (λ s. CanPollQueue future s) (sym same) can in
       record {
-        gave = (p.gave.0, same);
+        held = gave_none future (NumberGives future) old new cx left can (numbers_within old new p.gave.1 p.narrows) p;
         numbers = λ i. omega (arith, ap (λ slots. tagged_with i slots) p.gave.1);
-        narrows = numbers_within old new p.gave.1 p.narrows;
-        same_room = ap slot_count p.gave.1;
-        some = again.some;
-        bound = again.bound;
-        registered = tt;
-        started = p.started;
-        kept = p.kept;
-        again = again;
       }
 
   pub number_pending : (old new : Flights F ℕ) (cx left : Context) → CanPollQueue future old → PollsInFlight future old Pending new cx left → PollsByNumber future old Pending new cx left
   number_pending old new cx left can p =
-      let again = can_after_pending future old new cx left can p in
       record {
-        gave = (p.gave.0, ap held_count p.gave.1);
+        held = gave_nothing future (NumberGives future) old new cx left can (numbers_within old new p.gave.1 p.narrows) p;
         numbers = λ i. omega (arith, ap (λ slots. tagged_with i slots) p.gave.1);
-        narrows = numbers_within old new p.gave.1 p.narrows;
-        same_room = ap slot_count p.gave.1;
-        some = again.some;
-        bound = again.bound;
-        registered = p.registered;
-        started = p.started;
-        kept = p.kept;
-        again = again;
       }
-
--- a free slot more holds nothing
-nothing_more : {P : Type 0} (ps : List (Option P)) (i : ℕ) → get_or (ps ++ None ∷ []) i None ≡ get_or ps i None
-nothing_more [] zero = refl
-nothing_more [] (suc i) = refl
-nothing_more (p ∷ ps) zero = refl
-nothing_more (p ∷ ps) (suc i) = nothing_more ps i
 
 tagged_more : (i : ℕ) (ps : List (Option (Place ℕ))) → count_by (has_tag i) (ps ++ None ∷ []) ≡ count_by (has_tag i) ps
 tagged_more i ps = sum_by-append (λ (o : Option (Place ℕ)). cond (has_tag i o) 1 0) ps (None ∷ []) ∙ omega arith
@@ -290,7 +241,7 @@ module _ {F A : Type 0} (future : FutureOf F A) where
   wide_gives : (old wide : Flights F ℕ) (out : ℕ × A) → MakesRoom old wide → NumberGives future wide out → NumberGives future old out
   wide_gives old wide out (inl same) h = subst (λ s. NumberGives future s out) same.1 h
   wide_gives old wide out (inr made) h =
-      (h.0, h.1, sym (ap (λ ps. get_or ps h.0 None) made.1.slots.0 ∙ nothing_more old.slots.places h.0) ∙ h.2, wide_may old wide made.1 (record { slot = h.0; push = h.1 }, Some out.1) h.3)
+      (h.0, h.1, sym (ap (λ ps. get_or ps h.0 None) made.1.slots.0 ∙ get_or-push_default old.slots.places None h.0) ∙ h.2, wide_may old wide made.1 (record { slot = h.0; push = h.1 }, Some out.1) h.3)
 
   -- the set may be polled, and room was made
   pub wide_can_queue : (old wide : Flights F ℕ) → CanPollQueue future old → MakesRoom old wide → CanPollQueue future wide
@@ -353,16 +304,16 @@ module _ {F T : Type 0} where
 module _ {F : Type 0} where
   pub may_refuse_grown : (grows : Bool) (s : Flights F ℕ) → grows ≡ true → HasNoRoom s → MayRefuseNumber grows s
   may_refuse_grown true s is none = none
-  may_refuse_grown false s is none = absurd (true-false (sym is))
+  may_refuse_grown false s is none = absurd (false≢true is)
 
   pub may_refuse_bounded : (grows : Bool) (s : Flights F ℕ) → grows ≡ false → IsAtItsBound s → MayRefuseNumber grows s
   may_refuse_bounded false s is full = full
-  may_refuse_bounded true s is full = absurd (true-false is)
+  may_refuse_bounded true s is full = absurd (true≢false is)
 
   pub refuses_grown : (grows : Bool) (s : Flights F ℕ) → grows ≡ true → (RefusesNumbers grows s → IsUsedUp s) × (IsUsedUp s → RefusesNumbers grows s)
   refuses_grown true s is = (λ used. used, λ used. used)
-  refuses_grown false s is = absurd (true-false (sym is))
+  refuses_grown false s is = absurd (false≢true is)
 
   pub refuses_bounded : (grows : Bool) (s : Flights F ℕ) → grows ≡ false → (RefusesNumbers grows s → IsAtItsBound s) × (IsAtItsBound s → RefusesNumbers grows s)
   refuses_bounded false s is = (λ full. full, λ full. full)
-  refuses_bounded true s is = absurd (true-false is)
+  refuses_bounded true s is = absurd (true≢false is)

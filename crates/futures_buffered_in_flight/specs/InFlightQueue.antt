@@ -79,17 +79,19 @@ module _ {F A T : Type 0} (future : FutureOf F A) where
     -- the set may be polled
     pub again : CanPollQueue new
 
-  -- One poll, which takes the set from `old` to `new` and the task from `cx` to `left`.
-  pub record PollsQueued
+module _ {F A T B : Type 0} (future : FutureOf F A) (may_give : Flights F T → B → Type 0) where
+  -- One poll, which takes the set from `old` to `new` and the task from `cx` to `left`. `may_give` says what a set may
+  -- give.
+  pub record PollsHeld
       (old : Flights F T)
-      (answer : Poll (Option A))
+      (answer : Poll (Option B))
       (new : Flights F T)
       (cx left : Context)
       : Type 0 where
     -- an output, `None` if and only if no future is held, or `Pending`
-    pub gave : GivesHeld (AnySlotGives future) old answer new
-    -- no future gives what none could give before
-    pub narrows : (x : A) → AnySlotGives future new x → AnySlotGives future old x
+    pub gave : GivesHeld may_give old answer new
+    -- the set gives nothing that it could not give before
+    pub narrows : (x : B) → may_give new x → may_give old x
     -- there are as many slots as before, one at least, and no more futures are held than there are slots
     pub same_room : SameRoom old new
     pub some : 0 < flight_slots new
@@ -101,7 +103,11 @@ module _ {F A T : Type 0} (future : FutureOf F A) where
     -- what the task was registered for or woken for before still holds
     pub kept : Keeps cx left
     -- the set may be polled
-    pub again : CanPollQueue new
+    pub again : CanPollQueue future new
+
+-- one poll, whose output is one that a future held may give
+abbrev pub PollsQueued : {F A T : Type 0} → FutureOf F A → Flights F T → Poll (Option A) → Flights F T → Context → Context → Type 0
+PollsQueued future = PollsHeld future (AnySlotGives future)
 
 module _ {F A : Type 0} (future : FutureOf F A) where
   -- a future that is held under this tag may give this output
@@ -128,32 +134,16 @@ module _ {F A : Type 0} (future : FutureOf F A) where
   TakesNumber false old pushed number new = QueuesNumber old pushed number new
   TakesNumber true old pushed number new = (wide : Flights F ℕ) × MakesRoom old wide × QueuesNumber wide pushed number new
 
-  -- One poll, which takes the set from `old` to `new` and the task from `cx` to `left`. An output comes with the number
-  -- of its future.
+  -- One poll, whose output comes with the number of its future.
   pub record PollsByNumber
       (old : Flights F ℕ)
       (answer : Poll (Option (ℕ × A)))
       (new : Flights F ℕ)
       (cx left : Context)
       : Type 0 where
-    -- an output, `None` if and only if no future is held, or `Pending`
-    pub gave : GivesHeld NumberGives old answer new
+    pub held : PollsHeld future NumberGives old answer new cx left
     -- one future fewer has the number of an output, and as many as before have each other number
     pub numbers : (i : ℕ) → flights_with i new + outputs_with i answer ≡ flights_with i old
-    -- no future gives what none with its number could give before
-    pub narrows : (out : ℕ × A) → NumberGives new out → NumberGives old out
-    -- there are as many slots as before, one at least, and no more futures are held than there are slots
-    pub same_room : SameRoom old new
-    pub some : 0 < flight_slots new
-    pub bound : flight_count new ≤ flight_slots new
-    -- the task of a pending set is registered where the set waits, or is woken
-    pub registered : OnPending answer (Covers left (FlightsWaitAt new))
-    -- no future waits for memory, or the task is woken
-    pub started : (new.waiting ≡ []) ⊎ IsWoken left
-    -- what the task was registered for or woken for before still holds
-    pub kept : Keeps cx left
-    -- the set may be polled
-    pub again : CanPollQueue future new
 
 -- a poll of some task, said of the set alone
 abbrev pub OfSomeTask : {Q B : Type 0} → (Q → B → Q → Context → Context → Type 0) → Q → B → Q → Type 0

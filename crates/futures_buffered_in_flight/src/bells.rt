@@ -11,20 +11,29 @@ use std::sync::atomic::AtomicU64;
 use std::sync::atomic::Ordering::SeqCst;
 use std::sync::{Arc, Mutex};
 
-// The bell of a slot. Its waker belongs to the task whose number is the number of the bell, and not to the slot. The
-// set of `futures` uses a number again and again. So the waker that one run left serves the next run with that number,
-// and a pending poll mostly costs two loads here. Slots and numbers become free in the same order, so a slot and its
-// task mostly have the same number.
+// The bell of a slot. Its waker serves each run in the slot whose task has the same number. The set of `futures` uses a
+// number again and again, and slots and numbers become free in the same order, apart from cancels. So a run mostly has
+// the number of the run before it in its slot, and a pending poll costs two loads here.
 #[derive(Drop)]
 struct Bell {
     // One more than the number of the last push into this slot that was cancelled. 0 at first.
     cancelled: AtomicU64,
-    // One more than the number of the task of the last run in this slot whose poll was pending. 0 at first, after a
-    // cancel, and after all runs were dropped.
+    // One more than the number of the waker's task, or 0 if there is no waker.
     task: AtomicU64,
-    // 1 if there is a waker.
-    filled: AtomicU64,
     waker: Mutex<Option<Waker>>,
+}
+
+impl Bell {
+    // Takes the waker, which wakes its task. Returns whether there was one.
+    fn wake(&self) -> bool {
+        if self.task.load(SeqCst) == 0 {
+            return false;
+        }
+        self.task.store(0, SeqCst);
+        let woken = lock(&self.waker).map(|mut waker| waker.take());
+        drop(woken);
+        true
+    }
 }
 
 /// A table of bells, in at most two allocations.
@@ -42,7 +51,6 @@ impl Bells {
             bells.push(Bell {
                 cancelled: AtomicU64::new(0),
                 task: AtomicU64::new(0),
-                filled: AtomicU64::new(0),
                 waker: Mutex::new(None),
             })?;
         }
@@ -58,35 +66,16 @@ impl Bells {
         }
     }
 
-    /// Leaves a waker of the polling task in its place, if there is none.
+    /// Leaves a waker of the polling task in the bell of this slot, if the bell has none of this task. Wakes the task of
+    /// the waker that was there.
     pub fn leave_waker(&self, slot: usize, cx: &mut Context<'_>)
         ensures { Keeps cx.old cx.new }
     {
-        // The set of `futures` has at most as many runs as there are slots. So the number is below the number of bells,
-        // unless that set lost a number when an allocation failed.
-        let number = cx.task();
-        let place = if number < self.bells.len() {
-            number
-        } else {
-            slot
-        };
         let Some(bell) = self.bells.get(slot) else {
             return;
         };
-        let name = (place as u64).wrapping_add(1);
-        if bell.task.load(SeqCst) != name {
-            bell.task.store(name, SeqCst);
-        }
-        self.fill(place, cx);
-    }
-
-    fn fill(&self, place: usize, cx: &mut Context<'_>)
-        ensures { Keeps cx.old cx.new }
-    {
-        let Some(bell) = self.bells.get(place) else {
-            return;
-        };
-        if bell.filled.load(SeqCst) != 0 {
+        let name = (cx.task() as u64).wrapping_add(1);
+        if bell.task.load(SeqCst) == name {
             return;
         }
         let Some(mut waker) = lock(&bell.waker) else {
@@ -94,66 +83,30 @@ impl Bells {
             return;
         };
         let _: Poll<()> = cx.register(&self.source, &mut waker);
-        bell.filled.store(1, SeqCst);
+        bell.task.store(name, SeqCst);
     }
 
-    /// Marks the run of this push as cancelled, and wakes the task that its slot has. That is the task of this run, or
-    /// of an earlier run in the slot.
+    /// Marks the run of this push as cancelled, and wakes the task whose waker its slot has. That is the task of this
+    /// run, or of an earlier run in the slot.
     pub fn ring(&self, key: Key) {
-        let Some(bell) = self.bells.get(key.slot) else {
-            return;
-        };
-        bell.cancelled.store(key.push.wrapping_add(1), SeqCst);
-        let name = bell.task.swap(0, SeqCst);
-        // A run that was not polled yet is polled in any case.
-        if name != 0 {
-            self.wake((name - 1) as usize);
+        if let Some(bell) = self.bells.get(key.slot) {
+            bell.cancelled.store(key.push.wrapping_add(1), SeqCst);
+            // A run that was not polled yet is polled in any case.
+            bell.wake();
         }
-    }
-
-    fn wake(&self, place: usize) {
-        let Some(bell) = self.bells.get(place) else {
-            return;
-        };
-        bell.filled.store(0, SeqCst);
-        let woken = lock(&bell.waker).map(|mut waker| waker.take());
-        drop(woken);
     }
 
     /// Wakes the task of one run that left a waker, and returns whether any run did. Takes time in proportion to the
     /// number of bells.
     pub fn wake_any(&self) -> bool {
-        for place in 0..self.bells.len() {
-            if self.is_filled(place) {
-                self.wake(place);
-                return true;
-            }
-        }
-        false
-    }
-
-    fn is_filled(&self, place: usize) -> bool {
-        match self.bells.get(place) {
-            Some(bell) => bell.filled.load(SeqCst) != 0,
-            None => false,
-        }
+        self.bells.iter().any(|bell| bell.wake())
     }
 
     /// Drops all wakers, since the set of `futures` that they lead to was dropped. That wakes the tasks whose polls
     /// left them.
     pub fn let_all_go(&self) {
-        for slot in 0..self.bells.len() {
-            self.empty(slot);
-        }
-    }
-
-    fn empty(&self, slot: usize) {
-        let Some(bell) = self.bells.get(slot) else {
-            return;
-        };
-        bell.task.store(0, SeqCst);
-        if bell.filled.load(SeqCst) != 0 {
-            self.wake(slot);
+        for bell in &self.bells {
+            bell.wake();
         }
     }
 }
@@ -161,9 +114,7 @@ impl Bells {
 /// The tables of a set. The newest table has a bell for each slot, and the older tables together have no more bells
 /// than it.
 ///
-/// A run looks at the table that was the newest when the run started. In each table the place of a waker is the number
-/// of its task. That number is below the number of slots at the start of the run. So it is below the number of bells of
-/// the table, unless the set of `futures` lost a number.
+/// A run looks at the table that was the newest when the run started, which has a bell for its slot.
 #[derive(Drop)]
 pub struct Tables {
     newest: Arc<Bells>,
@@ -212,14 +163,7 @@ impl Tables {
 
     /// Wakes the task of one run that left a waker, if any run did.
     pub fn wake_any(&self) {
-        if self.newest.wake_any() {
-            return;
-        }
-        for bells in &self.older {
-            if bells.wake_any() {
-                return;
-            }
-        }
+        let _ = self.newest.wake_any() || self.older.iter().any(|bells| bells.wake_any());
     }
 
     /// Drops all wakers and the older tables, since all runs were dropped. That wakes the tasks whose polls left the

@@ -167,7 +167,8 @@ impl<F: Future<Output: Drop>, T: Drop, K> FuturesUnorderedBy<F, T, K> {
     ///
     /// Allocates only what the futures allocate, and what the set of `futures` does. That set allocates for a future
     /// that waits, for the number of a future that has ended, and at the first poll by a task. Wakes the task if a
-    /// future still waits for memory, and at the limit.
+    /// future still waits for memory, and at the limit. After a `cancel`, may wake the task and another future once
+    /// more.
     #[tactic(auto, using(crate::proofs::InFlightLemmas::polls_from, crate::proofs::InFlightLemmas::pended, crate::proofs::InFlightLemmas::ends, crate::proofs::InFlightLemmas::starts_on))]
     pub fn poll_next_keyed(&mut self, cx: &mut Context<'_>) -> Poll<Option<Came<F::Output, T>>>
         requires { CanPollAll F.Future self.old }
