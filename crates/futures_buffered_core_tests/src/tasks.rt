@@ -32,8 +32,12 @@ impl<S: Kind> Tasks<S> {
     where
         R: RandomSource + AllocGlobal,
     {
+        let mut sources = Vec::new(rt.alloc());
+        if sources.push(made?).is_err() {
+            return Err("no memory".into());
+        }
         Ok(Tasks {
-            sources: vec![in rt.alloc(); made?]?,
+            sources,
             alloc: rt.alloc(),
             one: MockTask::new(rt)?,
             two: MockTask::new(rt)?,
