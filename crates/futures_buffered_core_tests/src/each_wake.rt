@@ -1,6 +1,5 @@
 // Two threads make a wake each in one round after another, and the next round begins once both slots are named. So no
 // later wake stands in for one that was lost: whoever takes is woken, or the test fails.
-use crate::run_on::run_on;
 use crate::same::assert_same;
 use crate::slots::{Parts, new_parts};
 use futures_buffered_core::ready_core::Taken;
@@ -18,54 +17,24 @@ const MILLISECONDS: u128 = 3_000;
 // After so many turns of a wait each further one lets other threads run.
 const BUSY_TURNS: u64 = 5_000;
 
-// How many wakes of a slot have ended, and how often the slot was named.
-#[derive(Drop)]
-struct Seat {
-    ended: AtomicU64,
-    named: AtomicU64,
-}
-
-// A seat for each of two slots, the round in which the threads wake, whether the outer waker was woken, and whether the
-// threads have to stop.
+// When the threads began; the round in which they wake, which is the last number once they have to stop; the round of
+// which the wake of each of two slots has ended; and whether the outer waker was woken.
 #[derive(Drop)]
 struct Shared {
-    first: Seat,
-    second: Seat,
+    start: Instant,
     round: AtomicU64,
+    first: AtomicU64,
+    second: AtomicU64,
     is_woken: AtomicU64,
-    stops: AtomicU64,
 }
 
-fn new_seat() -> Seat {
-    Seat {
-        ended: AtomicU64::new(0),
-        named: AtomicU64::new(0),
-    }
-}
-
-fn new_shared() -> Shared {
+fn new_shared(start: Instant) -> Shared {
     Shared {
-        first: new_seat(),
-        second: new_seat(),
+        start,
         round: AtomicU64::new(0),
+        first: AtomicU64::new(0),
+        second: AtomicU64::new(0),
         is_woken: AtomicU64::new(0),
-        stops: AtomicU64::new(0),
-    }
-}
-
-impl Shared {
-    fn seat(&self, slot: usize) -> &Seat {
-        if slot == 0 { &self.first } else { &self.second }
-    }
-
-    // Whether the wake of this round has ended, of each slot.
-    fn has_ended(&self, round: u64) -> bool {
-        self.first.ended.load(SeqCst) == round && self.second.ended.load(SeqCst) == round
-    }
-
-    // Whether each slot was named as often as there were rounds.
-    fn is_named(&self, round: u64) -> bool {
-        self.first.named.load(SeqCst) == round && self.second.named.load(SeqCst) == round
     }
 }
 
@@ -83,51 +52,45 @@ impl<'a> OuterWaker for Says<'a> {
 
 type Source<'a> = SharedReady<Says<'a>>;
 
+// Ends a turn of a wait.
+fn turn_over(turn: u64) {
+    if turn > BUSY_TURNS {
+        yield_now();
+    }
+}
+
 // Waits for a round to begin: whether it does before the threads have to stop.
 fn begins(shared: &Shared, round: u64) -> bool {
     for turn in 0..u64::MAX {
-        if shared.round.load(SeqCst) == round {
-            return true;
+        let now = shared.round.load(SeqCst);
+        if now >= round {
+            return now == round;
         }
-        if shared.stops.load(SeqCst) != 0 {
-            return false;
-        }
-        if turn > BUSY_TURNS {
-            yield_now();
-        }
+        turn_over(turn);
     }
     false
 }
 
-// Lets a while pass that differs from round to round, and between the threads.
-fn pause(shared: &Shared, slot: usize, round: u64) {
-    let turns = if slot == 0 { round % 29 } else { round % 31 };
-    for _ in 0..turns {
-        let _ = shared.stops.load(SeqCst);
-    }
-}
-
-// Makes one wake in each round.
-fn wake_often(shared: &Shared, waker: &SharedWaker<Says<'_>>) {
-    let slot = waker.slot();
-    let seat = shared.seat(slot);
+// Makes one wake in each round, after a while that differs from round to round, and between the threads.
+fn wake_often(shared: &Shared, waker: &SharedWaker<Says<'_>>, ended: &AtomicU64, turns: u64) {
     for round in 1..u64::MAX {
         if !begins(shared, round) {
             return;
         }
-        pause(shared, slot, round);
+        for _ in 0..round.checked_rem(turns).unwrap_or(0) {
+            let _ = shared.round.load(SeqCst);
+        }
         waker.wake();
-        seat.ended.store(round, SeqCst);
+        ended.store(round, SeqCst);
     }
 }
 
-// Takes until no slot is marked.
-fn take_all(source: &mut Source<'_>, shared: &Shared) {
+// Takes until no slot is marked, and counts how often each slot is named.
+fn take_all(source: &mut Source<'_>, named: &mut [u64; 2]) {
     for _ in 0..u64::MAX {
         match source.take() {
-            Taken::Slot(slot) => {
-                shared.seat(slot).named.fetch_add(1, SeqCst);
-            }
+            Taken::Slot(0) => named[0] = named[0].wrapping_add(1),
+            Taken::Slot(_) => named[1] = named[1].wrapping_add(1),
             Taken::Empty => return,
             Taken::Pause => {}
         }
@@ -137,13 +100,13 @@ fn take_all(source: &mut Source<'_>, shared: &Shared) {
 // Waits until the outer waker is woken: whether it is. Once the wakes of this round have ended, it has to be.
 fn is_woken(shared: &Shared, round: u64) -> bool {
     for turn in 0..u64::MAX {
-        let has_ended = shared.has_ended(round);
-        if has_ended || shared.is_woken.load(SeqCst) != 0 {
-            return shared.is_woken.load(SeqCst) != 0;
+        let first = shared.first.load(SeqCst);
+        let has_ended = first == round && shared.second.load(SeqCst) == round;
+        let is_woken = shared.is_woken.load(SeqCst) != 0;
+        if has_ended || is_woken {
+            return is_woken;
         }
-        if turn > BUSY_TURNS {
-            yield_now();
-        }
+        turn_over(turn);
     }
     false
 }
@@ -158,14 +121,15 @@ fn is_over<C: Clock>(clock: &C, start: &Instant) -> bool {
 // Puts an outer waker in and takes all, whenever the one before was woken, until both slots are named: whether each was
 // woken.
 fn answer_round<'a>(source: &mut Source<'a>, shared: &'a Shared, round: u64) -> bool {
+    let mut named = [0, 0];
     for _ in 0..u64::MAX {
         if !is_woken(shared, round) {
             return false;
         }
         shared.is_woken.store(0, SeqCst);
         source.set_outer(Says { shared });
-        take_all(source, shared);
-        if shared.is_named(round) {
+        take_all(source, &mut named);
+        if named == [1, 1] {
             return true;
         }
     }
@@ -173,35 +137,18 @@ fn answer_round<'a>(source: &mut Source<'a>, shared: &'a Shared, round: u64) -> 
 }
 
 // Has both threads wake in round after round until the time is over: whether each wake was answered.
-fn answer_all<'a, C: Clock>(
-    clock: &C,
-    start: &Instant,
-    source: &mut Source<'a>,
-    shared: &'a Shared,
-) -> bool {
+fn answer_all<'a, C: Clock>(clock: &C, source: &mut Source<'a>, shared: &'a Shared) -> bool {
     source.set_outer(Says { shared });
     for round in 1..u64::MAX {
         shared.round.store(round, SeqCst);
         if !answer_round(source, shared, round) {
             return false;
         }
-        if round % 256 == 0 && is_over(clock, start) {
+        if round % 256 == 0 && is_over(clock, &shared.start) {
             return true;
         }
     }
     true
-}
-
-// The same, and then the threads stop.
-fn answer_and_stop<'a, C: Clock>(
-    clock: &C,
-    start: &Instant,
-    source: &mut Source<'a>,
-    shared: &'a Shared,
-) -> bool {
-    let answered = answer_all(clock, start, source, shared);
-    shared.stops.store(1, SeqCst);
-    answered
 }
 
 fn wake_both<R: Threads>(
@@ -212,32 +159,33 @@ fn wake_both<R: Threads>(
 ) {
     thread::join(
         rt,
-        || wake_often(shared, first),
-        || wake_often(shared, second),
+        || wake_often(shared, first, &shared.first, 29),
+        || wake_often(shared, second, &shared.second, 31),
     );
 }
 
-// The same while two threads wake.
+// The same while two threads wake, which then stop.
 fn answer_both<'a, R: Threads + Clock + Sync>(
     rt: &R,
-    start: &Instant,
     (first, second, source): &mut Parts<Says<'a>>,
     shared: &'a Shared,
 ) -> bool {
     let ((), answered) = thread::join(
         rt,
         || wake_both(rt, shared, first, second),
-        || answer_and_stop(rt, start, source, shared),
+        || {
+            let answered = answer_all(rt, source, shared);
+            shared.round.store(u64::MAX, SeqCst);
+            answered
+        },
     );
     answered
 }
 
 #[test]
 fn each_wake_of_two_threads_is_answered(rt: HostRuntime) -> Result<(), Fail> {
-    let shared = new_shared();
-    let start = Instant::now(&rt)?;
-    run_on(new_parts(rt.alloc(), 2, [0, 1]), |parts| {
-        assert_same(&rt, answer_both(&rt, &start, parts, &shared), true);
-        Ok(())
-    })
+    let shared = new_shared(Instant::now(&rt)?);
+    let mut parts = new_parts(rt.alloc(), 2, [0, 1])?;
+    assert_same(&rt, answer_both(&rt, &mut parts, &shared), true);
+    Ok(())
 }

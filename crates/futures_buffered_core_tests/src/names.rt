@@ -1,11 +1,14 @@
 //! What names marked slots, a source or a list, is asked the same: once for each of many slots, and against a plain
 //! list.
 use crate::same::assert_same;
-use crate::slots::mark;
+use crate::slots::{mark, wake};
 use crate::table::alone::Alone;
-use futures_buffered_core::ready_core::{Taken, Woke};
-use futures_buffered_core::ready_source::ReadySource;
-use std::alloc::AllocError;
+use futures_buffered_core::ready_core::{NewFault, Taken, Woke};
+use futures_buffered_core::ready_shared::SharedReady;
+use futures_buffered_core::ready_source::{
+    CoreSource, NewSource, ReadySource, ScriptSource, SlotWaker,
+};
+use std::alloc::{AllocError, Global};
 use std::process::Abort;
 
 pub trait Names {
@@ -17,49 +20,75 @@ pub trait Names {
     fn take_slot(&mut self) -> Taken;
 }
 
-/// A source, by its marks.
-#[derive(Drop)]
-pub struct Marked<S> {
-    pub source: S,
+/// A source, with what differs between sources.
+pub trait Kind: ReadySource {
+    /// Wakes the slot by a waker of it: whether that marks the slot.
+    fn wake_slot(&mut self, _slot: usize) -> bool {
+        false
+    }
+
+    fn sibling(&mut self, _alloc: Global, _slots: usize) -> Result<Self, NewFault> {
+        Err(NewFault::Memory)
+    }
 }
 
-impl<S: ReadySource> Names for Marked<S> {
+impl Kind for ScriptSource {}
+
+impl Kind for CoreSource {
+    fn wake_slot(&mut self, slot: usize) -> bool {
+        if slot < self.capacity() {
+            self.waker(slot).wake();
+        }
+        false
+    }
+
+    fn sibling(&mut self, alloc: Global, slots: usize) -> Result<CoreSource, NewFault> {
+        self.make_sibling(alloc, slots)
+    }
+}
+
+impl Kind for SharedReady {
+    fn wake_slot(&mut self, slot: usize) -> bool {
+        wake(self, slot);
+        true
+    }
+
+    fn sibling(&mut self, alloc: Global, slots: usize) -> Result<SharedReady, NewFault> {
+        self.make_sibling(alloc, slots)
+    }
+}
+
+impl<S: Kind> Names for S {
     fn slots(&self) -> usize {
-        self.source.capacity()
+        self.capacity()
     }
 
     fn mark_slot(&mut self, slot: usize) -> Option<Woke> {
-        mark(&mut self.source, slot)
+        mark(self, slot)
     }
 
     fn take_slot(&mut self) -> Taken {
-        self.source.take()
+        self.take()
     }
 }
 
-/// A list, at one wake of three by a new seat.
-#[derive(Drop)]
-pub struct Woken {
-    pub list: Alone,
-    pub wakes: u64,
-}
-
-impl Names for Woken {
+/// A list is marked by its wakes, one of three by a new seat.
+impl Names for Alone {
     fn slots(&self) -> usize {
-        self.list.capacity()
+        self.capacity()
     }
 
     fn mark_slot(&mut self, slot: usize) -> Option<Woke> {
         self.wakes = self.wakes.wrapping_add(1);
         if self.wakes % 3 == 0 {
-            self.list.wake_anew(slot)
+            self.wake_anew(slot)
         } else {
-            self.list.wake(slot)
+            self.wake(slot)
         }
     }
 
     fn take_slot(&mut self) -> Taken {
-        self.list.take()
+        self.take()
     }
 }
 
@@ -99,59 +128,42 @@ pub fn next_number(number: u64) -> u64 {
         .wrapping_add(1442695040888963407)
 }
 
-// Whether a taking answers as the plain list does.
-fn takes_alike<N: Names>(names: &mut N, plain: &mut Vec<usize>) -> bool {
-    let wanted = if plain.is_empty() {
+// What a taking of the plain list answers.
+fn take_plain(plain: &mut Vec<usize>) -> Taken {
+    if plain.is_empty() {
         Taken::Empty
     } else {
         Taken::Slot(plain.remove(0))
-    };
-    names.take_slot() == wanted
+    }
 }
 
-// Whether a mark does.
-fn marks_alike<N: Names>(
+// What a mark does.
+fn mark_plain(plain: &mut Vec<usize>, slot: usize) -> Result<Woke, AllocError> {
+    if plain.contains(&slot) {
+        return Ok(Woke::Already);
+    }
+    plain.push(slot)?;
+    Ok(Woke::Fresh)
+}
+
+/// Makes 20,000 marks and takings, now more of the one and now of the other, and wants what a list of the marked slots
+/// answers, oldest mark first.
+pub fn is_as_plain<N: Names>(
+    rt: &impl Abort,
     names: &mut N,
     plain: &mut Vec<usize>,
-    slot: usize,
-) -> Result<bool, AllocError> {
-    let is_marked = plain.contains(&slot);
-    if !is_marked {
-        plain.push(slot)?;
-    }
-    let wanted = if is_marked {
-        Woke::Already
-    } else {
-        Woke::Fresh
-    };
-    Ok(names.mark_slot(slot) == Some(wanted))
-}
-
-// The call that this number names: a taking, at so many numbers of ten, or a mark.
-fn answers_alike<N: Names>(
-    names: &mut N,
-    plain: &mut Vec<usize>,
-    number: u64,
-    takings_of_ten: u64,
-) -> Result<bool, AllocError> {
-    if (number >> 33) % 10 < takings_of_ten {
-        return Ok(takes_alike(names, plain));
-    }
-    let place = (number >> 40) as usize;
-    let slot = place.checked_rem(names.slots()).unwrap_or(0);
-    marks_alike(names, plain, slot)
-}
-
-/// Whether 20,000 marks and takings, now more of the one and now of the other, are answered as by a list of the marked
-/// slots, oldest mark first.
-pub fn is_as_plain<N: Names>(names: &mut N, plain: &mut Vec<usize>) -> Result<bool, AllocError> {
+) -> Result<(), AllocError> {
     let mut number = 1u64;
     for turn in 0..20_000u64 {
         number = next_number(number);
         let takings_of_ten = if turn / 500 % 2 == 0 { 3 } else { 7 };
-        if !answers_alike(names, plain, number, takings_of_ten)? {
-            return Ok(false);
+        if (number >> 33) % 10 < takings_of_ten {
+            assert_same(rt, names.take_slot(), take_plain(plain));
+        } else {
+            let place = (number >> 40) as usize;
+            let slot = place.checked_rem(names.slots()).unwrap_or(0);
+            assert_same(rt, names.mark_slot(slot), Some(mark_plain(plain, slot)?));
         }
     }
-    Ok(true)
+    Ok(())
 }

@@ -1,78 +1,70 @@
 // Sources, lists and slot maps of no slot, of few, of a thousand and of many.
-use crate::names::{
-    Marked, Names, Woken, is_as_plain, mark_all, names_each_once, slot_at, take_all,
-};
+use crate::names::{Kind, Names, is_as_plain, mark_all, names_each_once, slot_at, take_all};
 use crate::same::assert_same;
-use crate::slots::wake;
+use crate::slot_map::insert;
 use crate::table::alone::Alone;
 use futures_buffered_core::ready_core::{NewFault, Taken, Woke};
 use futures_buffered_core::ready_shared::SharedReady;
 use futures_buffered_core::ready_source::{CoreSource, NewSource};
 use futures_buffered_core::slot_map::PinSlotMap;
-use std::alloc::Global;
+use std::alloc::{AllocError, Global};
 use std::process::Abort;
 use std::test::Fail;
 
 // Numbers of slots, among them those that stand just above a power of two.
 const SIZES: [usize; 9] = [0, 1, 2, 33, 65, 129, 300, 1_000, 70_000];
 
-type Three<S> = (Marked<S>, Marked<S>, Marked<S>);
-
-// A source, one beside another, and this other one, of one slot.
-fn three_of<S: NewSource<Env = ()>>(alloc: Global, slots: usize) -> Result<Three<S>, NewFault> {
-    let mut other = S::make(&(), alloc, 1)?;
-    let beside = other.make_sibling(alloc, slots)?;
-    let source = S::make(&(), alloc, slots)?;
-    Ok((
-        Marked { source },
-        Marked { source: beside },
-        Marked { source: other },
-    ))
+// Wakes each slot: whether that marks them.
+fn wake_all<S: Kind>(source: &mut S, slots: usize) -> bool {
+    let mut marks = false;
+    for place in 0..slots {
+        marks = source.wake_slot(slot_at(place, slots));
+    }
+    marks
 }
 
-fn try_core_sources(rt: &impl Abort, alloc: Global, slots: usize) -> Result<(), Fail> {
-    let (mut alone, mut beside, mut other) = three_of::<CoreSource>(alloc, slots)?;
-    names_each_once(rt, &mut alone, slots);
-    names_each_once(rt, &mut beside, slots);
-    assert_same(rt, other.take_slot(), Taken::Empty);
+// Each slot is named once by marks, and once by wakes if they mark.
+fn try_source<S: Kind>(
+    rt: &impl Abort,
+    made: Result<S, NewFault>,
+    slots: usize,
+) -> Result<(), NewFault> {
+    let mut source = made?;
+    names_each_once(rt, &mut source, slots);
+    if wake_all(&mut source, slots) {
+        mark_all(rt, &mut source, slots, Woke::Already);
+        wake_all(&mut source, slots);
+        take_all(rt, &mut source, slots);
+    }
     Ok(())
+}
+
+// A source of so many slots, and the sibling of another one, which names none.
+fn try_sources<S: Kind + NewSource<Env = ()>>(
+    rt: &impl Abort,
+    alloc: Global,
+    slots: usize,
+) -> Result<(), NewFault> {
+    try_source(rt, S::make(&(), alloc, slots), slots)?;
+    let mut other = S::make(&(), alloc, 1)?;
+    let beside = other.make_sibling(alloc, slots);
+    let tried = try_source(rt, beside, slots);
+    assert_same(rt, other.take(), Taken::Empty);
+    tried
 }
 
 #[test]
 fn a_core_source_names_each_slot_once(rt: HostRuntime) -> Result<(), Fail> {
     for slots in SIZES {
-        try_core_sources(&rt, rt.alloc(), slots)?;
+        try_sources::<CoreSource>(&rt, rt.alloc(), slots)?;
     }
-    Ok(())
-}
-
-fn wake_all(source: &SharedReady, slots: usize) {
-    for place in 0..slots {
-        wake(source, slot_at(place, slots));
-    }
-}
-
-// Each slot is named once by marks, and once by wakes.
-fn try_shared(rt: &impl Abort, shared: &mut Marked<SharedReady>, slots: usize) {
-    names_each_once(rt, shared, slots);
-    wake_all(&shared.source, slots);
-    mark_all(rt, shared, slots, Woke::Already);
-    wake_all(&shared.source, slots);
-    take_all(rt, shared, slots);
-}
-
-fn try_shared_sources(rt: &impl Abort, alloc: Global, slots: usize) -> Result<(), Fail> {
-    let (mut alone, mut beside, mut other) = three_of::<SharedReady>(alloc, slots)?;
-    try_shared(rt, &mut alone, slots);
-    try_shared(rt, &mut beside, slots);
-    assert_same(rt, other.take_slot(), Taken::Empty);
     Ok(())
 }
 
 #[test]
 fn a_shared_source_names_each_slot_once(rt: HostRuntime) -> Result<(), Fail> {
     for slots in SIZES {
-        try_shared_sources(&rt, rt.alloc(), slots)?;
+        try_sources::<SharedReady>(&rt, rt.alloc(), slots)?;
     }
     Ok(())
 }
@@ -86,13 +78,12 @@ fn take_in_order<N: Names>(rt: &impl Abort, names: &mut N, slots: usize) {
 }
 
 // Each slot of a source that is made with its marks is marked, and named in order. Later marks name each slot once.
-fn try_made_marked<S: NewSource<Env = ()>>(
+fn try_made_marked<S: Kind + NewSource<Env = ()>>(
     rt: &impl Abort,
     alloc: Global,
     slots: usize,
 ) -> Result<(), Fail> {
-    let source = S::make_marked(&(), alloc, slots)?;
-    let mut marked = Marked { source };
+    let mut marked = S::make_marked(&(), alloc, slots)?;
     mark_all(rt, &mut marked, slots, Woke::Already);
     take_in_order(rt, &mut marked, slots);
     names_each_once(rt, &mut marked, slots);
@@ -109,11 +100,10 @@ fn a_source_made_marked_names_each_slot_in_order(rt: HostRuntime) -> Result<(), 
     Ok(())
 }
 
-fn try_list(rt: &impl Abort, alloc: Global, slots: usize) -> Result<bool, Fail> {
-    let list = Alone::new(rt, alloc, slots);
-    let mut woken = Woken { list, wakes: 0 };
-    names_each_once(rt, &mut woken, slots);
-    Ok(woken.list.closes_with(alloc, &[])?)
+fn try_list(rt: &impl Abort, alloc: Global, slots: usize) -> Result<bool, AllocError> {
+    let mut list = Alone::new(rt, alloc, slots);
+    names_each_once(rt, &mut list, slots);
+    list.closes_with(alloc, &[])
 }
 
 #[test]
@@ -124,41 +114,39 @@ fn a_list_names_each_slot_once(rt: HostRuntime) -> Result<(), Fail> {
     Ok(())
 }
 
-fn core_is_as_plain(alloc: Global, slots: usize) -> Result<bool, Fail> {
-    let source = CoreSource::make(&(), alloc, slots)?;
-    Ok(is_as_plain(&mut Marked { source }, &mut Vec::new(alloc))?)
-}
-
-fn shared_is_as_plain(alloc: Global, slots: usize) -> Result<bool, Fail> {
-    let source: SharedReady = SharedReady::new(alloc, slots)?;
-    Ok(is_as_plain(&mut Marked { source }, &mut Vec::new(alloc))?)
+fn source_is_as_plain<S: Kind + NewSource<Env = ()>>(
+    rt: &impl Abort,
+    alloc: Global,
+    slots: usize,
+) -> Result<(), Fail> {
+    let mut source = S::make(&(), alloc, slots)?;
+    Ok(is_as_plain(rt, &mut source, &mut Vec::new(alloc))?)
 }
 
 #[test]
 fn names_what_a_plain_list_names(rt: HostRuntime) -> Result<(), Fail> {
     for slots in [1, 2, 6, 11] {
-        assert!(rt; core_is_as_plain(rt.alloc(), slots)?);
-        assert!(rt; shared_is_as_plain(rt.alloc(), slots)?);
+        source_is_as_plain::<CoreSource>(&rt, rt.alloc(), slots)?;
+        source_is_as_plain::<SharedReady>(&rt, rt.alloc(), slots)?;
     }
     Ok(())
 }
 
 #[test]
 fn many_calls(rt: HostRuntime) -> Result<(), Fail> {
-    let list = Alone::new(&rt, rt.alloc(), 100);
-    let mut woken = Woken { list, wakes: 0 };
+    let mut list = Alone::new(&rt, rt.alloc(), 100);
     let mut plain = Vec::new(rt.alloc());
-    assert!(rt; is_as_plain(&mut woken, &mut plain)?);
-    assert!(rt; woken.list.closes_with(rt.alloc(), plain.as_slice())?);
+    is_as_plain(&rt, &mut list, &mut plain)?;
+    assert!(rt; list.closes_with(rt.alloc(), plain.as_slice())?);
     Ok(())
 }
 
 // Fills each free slot with its number.
 fn fill(rt: &impl Abort, map: &mut PinSlotMap<usize>, slots: usize) {
     for slot in 0..slots {
-        assert_same(rt, map.insert_with(slot, |value| value), Ok(slot));
+        assert_same(rt, insert(map, slot), Ok(slot));
     }
-    assert_same(rt, map.insert_with(slots, |value| value), Err(slots));
+    assert_same(rt, insert(map, slots), Err(slots));
     assert_same(rt, (map.len(), map.capacity()), (slots, slots));
 }
 
@@ -177,7 +165,7 @@ fn refill(rt: &impl Abort, map: &mut PinSlotMap<usize>, slots: usize) {
     for place in 0..slots {
         let before = slots.saturating_sub(place).saturating_sub(1);
         let slot = slot_at(before, slots);
-        assert_same(rt, map.insert_with(slot, |value| value), Ok(slot));
+        assert_same(rt, insert(map, slot), Ok(slot));
     }
 }
 

@@ -7,12 +7,16 @@ use futures_buffered_core::slot_map::PinSlotMap;
 use std::process::Abort;
 use std::test::Fail;
 
+/// The slot that now holds the value, or the value if none is free.
+pub fn insert<T: Drop>(map: &mut PinSlotMap<T>, value: T) -> Result<usize, T> {
+    map.insert_with(value, |value| value)
+}
+
 // Fills three free slots, in order.
 fn fills(rt: &impl Abort, map: &mut PinSlotMap<u64>) {
-    for (value, slot) in [(10_u64, 0), (11, 1), (12, 2)] {
-        assert_same(rt, map.insert_with(value, |value| value), Ok(slot));
+    for (value, wanted) in [(10_u64, Ok(0)), (11, Ok(1)), (12, Ok(2)), (13, Err(13))] {
+        assert_same(rt, insert(map, value), wanted);
     }
-    assert_same(rt, map.insert_with(13, |value| value), Err(13));
 }
 
 // Walks over what is held, by the order of the slots, and sets each value.
@@ -45,8 +49,8 @@ fn uses_the_freed_slot_first(rt: HostRuntime) -> Result<(), Fail> {
         (map.len(), map.get(0).is_some(), map.get(3).is_some()),
         (1, false, false),
     );
-    assert_same(&rt, map.insert_with(14, |value| value), Ok(2));
-    assert_same(&rt, map.insert_with(15, |value| value), Ok(0));
+    assert_same(&rt, insert(&mut map, 14), Ok(2));
+    assert_same(&rt, insert(&mut map, 15), Ok(0));
     if let Some(value) = map.get(1) {
         *value = 16;
     }
@@ -70,9 +74,9 @@ fn holds_each_item(rt: HostRuntime) -> Result<(), Fail> {
         (map.get(0).copied(), map.get(2).copied()),
         (Some(0), Some(2)),
     );
-    assert_same(&rt, map.insert_with(3, |value| value), Err(3));
+    assert_same(&rt, insert(&mut map, 3), Err(3));
     map.remove(1);
-    assert_same(&rt, map.insert_with(4, |value| value), Ok(1));
+    assert_same(&rt, insert(&mut map, 4), Ok(1));
     Ok(())
 }
 

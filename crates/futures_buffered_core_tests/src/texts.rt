@@ -7,65 +7,66 @@ use std::fmt::{Debug, Display};
 use std::process::Abort;
 use std::test::Fail;
 
-// Writes a fault, and wants this text.
-fn says<R: Abort + AllocGlobal, F: Display + Drop>(
+// Writes each fault, and wants these texts.
+fn says<R: Abort + AllocGlobal, F: Display>(
     rt: &R,
-    fault: F,
+    faults: &[F],
     wanted: &str,
 ) -> Result<(), Fail> {
-    let text = format!(in rt.alloc(); "{fault}")?;
-    assert_same(rt, text.as_str(), wanted);
+    let mut texts = String::new(rt.alloc());
+    for fault in faults {
+        write!(texts, "{fault}; ")?;
+    }
+    assert_same(rt, texts.as_str(), wanted);
     Ok(())
 }
 
 #[test]
 fn texts_of_faults(rt: HostRuntime) -> Result<(), Fail> {
-    says(&rt, RunFault::Memory, "out of memory")?;
-    let first = "the entry at 0 names a slot that is not there";
-    says(&rt, RunFault::Event(0), first)?;
-    let later = "the entry at 70000 names a slot that is not there";
-    says(&rt, RunFault::Event(70_000), later)?;
-    says(&rt, NewFault::Memory, "out of memory")?;
-    says(
-        &rt,
-        NewFault::TooLarge,
-        "the capacity is too large: at most 4611686018427387903 slots",
-    )?;
-    says(&rt, StepFault::Memory, "out of memory")?;
-    says(
-        &rt,
-        StepFault::TooLarge,
-        "the capacity is too large: at most 4611686018427387903 slots",
-    )?;
-    says(&rt, StepFault::Step(7), "step 7 cannot be made")
+    let faults = [
+        RunFault::Memory,
+        RunFault::Event(0),
+        RunFault::Event(70_000),
+    ];
+    let wanted = "out of memory; the entry at 0 names a slot that is not there; \
+        the entry at 70000 names a slot that is not there; ";
+    says(&rt, &faults, wanted)?;
+    let wanted = "out of memory; the capacity is too large: at most 4611686018427387903 slots; ";
+    says(&rt, &[NewFault::Memory, NewFault::TooLarge], wanted)?;
+    says(&rt, &[StepFault::Memory, StepFault::TooLarge], wanted)?;
+    says(&rt, &[StepFault::Step(7)], "step 7 cannot be made; ")
 }
 
-// Shows a value, and wants this text.
+// Shows values, and wants this text.
 fn shows<R: Abort + AllocGlobal, T: Debug + Drop>(
     rt: &R,
-    value: T,
+    values: T,
     wanted: &str,
 ) -> Result<(), Fail> {
-    let text = format!(in rt.alloc(); "{value:?}")?;
+    let text = format!(in rt.alloc(); "{values:?}")?;
     assert_same(rt, text.as_str(), wanted);
     Ok(())
 }
 
 #[test]
 fn events_and_replies_are_shown(rt: HostRuntime) -> Result<(), Fail> {
-    shows(&rt, Event::Mark(12), "Mark(12)")?;
-    shows(&rt, Event::Take, "Take")?;
-    shows(&rt, Reply::Woke(Woke::Fresh), "Woke(Fresh)")?;
-    shows(&rt, Reply::Woke(Woke::Already), "Woke(Already)")?;
-    shows(&rt, Reply::Taken(Taken::Slot(3)), "Taken(Slot(3))")?;
-    shows(&rt, Reply::Taken(Taken::Empty), "Taken(Empty)")?;
-    shows(&rt, Reply::Taken(Taken::Pause), "Taken(Pause)")
+    shows(&rt, [Event::Mark(12), Event::Take], "[Mark(12), Take]")?;
+    let woken = [Woke::Fresh, Woke::Already].map(Reply::Woke);
+    let taken = [Taken::Slot(3), Taken::Empty, Taken::Pause].map(Reply::Taken);
+    let wanted = "([Woke(Fresh), Woke(Already)], [Taken(Slot(3)), Taken(Empty), Taken(Pause)])";
+    shows(&rt, (woken, taken), wanted)
 }
 
 #[test]
 fn faults_are_shown(rt: HostRuntime) -> Result<(), Fail> {
-    shows(&rt, RunFault::Memory, "Memory")?;
-    shows(&rt, RunFault::Event(9), "Event(9)")?;
-    shows(&rt, NewFault::Memory, "Memory")?;
-    shows(&rt, NewFault::TooLarge, "TooLarge")
+    shows(
+        &rt,
+        [RunFault::Memory, RunFault::Event(9)],
+        "[Memory, Event(9)]",
+    )?;
+    shows(
+        &rt,
+        [NewFault::Memory, NewFault::TooLarge],
+        "[Memory, TooLarge]",
+    )
 }

@@ -1,341 +1,117 @@
-// Which task a wake finds, and where its waker lies, on one thread.
-use crate::run_on::run_on;
+// Which task a wake finds, and where its waker lies, on one thread. A sibling is the next source.
 use crate::same::assert_same;
-use crate::slots::{mark, wake};
+use crate::script::play;
+use crate::tasks::{Tasks, plays};
 use futures::task::{Poll, Source, Waker};
 use futures::test::MockTask;
-use futures_buffered_core::ready_core::{MAX_CAPACITY, NewFault, Taken, Woke};
+use futures_buffered_core::ready_core::{MAX_CAPACITY, NewFault};
 use futures_buffered_core::ready_shared::SharedReady;
-use futures_buffered_core::ready_source::{NewSource, ReadySource};
 use std::alloc::{AllocGlobal, Global};
 use std::process::Abort;
 use std::random::RandomSource;
 use std::test::Fail;
 
-// A task and a source of so many slots.
-fn one_source<R>(rt: &R, slots: usize) -> Result<(MockTask, SharedReady), Fail>
-where
-    R: RandomSource + AllocGlobal,
-{
-    let task = MockTask::new(rt)?;
-    let source = SharedReady::new(rt.alloc(), slots)?;
-    Ok((task, source))
-}
+type Scene = Tasks<SharedReady>;
 
-// Two tasks and a source of so many slots.
-fn two_tasks<R>(rt: &R, slots: usize) -> Result<(MockTask, MockTask, SharedReady), Fail>
-where
-    R: RandomSource + AllocGlobal,
-{
-    let other = MockTask::new(rt)?;
-    let (task, source) = one_source(rt, slots)?;
-    Ok((task, other, source))
-}
-
-// A task, a source of one slot and one made beside it.
-fn two_sources<R>(rt: &R) -> Result<(MockTask, SharedReady, SharedReady), Fail>
-where
-    R: RandomSource + AllocGlobal,
-{
-    let (task, mut source) = one_source(rt, 1)?;
-    let beside = source.make_sibling(rt.alloc(), 1)?;
-    Ok((task, source, beside))
-}
-
-// Registers the task, and nothing else.
-fn register(task: &MockTask, source: &mut SharedReady) {
-    task.enter(|cx| source.register(cx));
-}
-
-// Registers the task and takes once: the answer, and whether the task is woken by then.
-fn poll(task: &MockTask, source: &mut SharedReady) -> (Taken, bool) {
-    register(task, source);
-    let taken = source.take();
-    (taken, task.is_woken())
-}
-
-// Whether the task is woken once this slot was.
-fn is_woken_by(task: &MockTask, source: &SharedReady, slot: usize) -> bool {
-    wake(source, slot);
-    task.is_woken()
-}
-
-fn wakes_after_a_name(
-    rt: &impl Abort,
-    task: &MockTask,
-    source: &mut SharedReady,
-) -> Result<(), Fail> {
-    assert_same(rt, mark(source, 0), Some(Woke::Fresh));
-    assert_same(rt, poll(task, source), (Taken::Slot(0), false));
-    assert_same(rt, is_woken_by(task, source, 1), false);
-    assert_same(rt, poll(task, source), (Taken::Slot(1), false));
-    assert_same(rt, is_woken_by(task, source, 0), false);
-    assert_same(rt, poll(task, source), (Taken::Slot(0), false));
-    assert_same(rt, poll(task, source), (Taken::Empty, false));
-    assert_same(rt, is_woken_by(task, source, 1), true);
-    // That wake took the waker out, so it is with the poller again.
-    assert_same(rt, poll(task, source), (Taken::Slot(1), false));
-    assert_same(rt, is_woken_by(task, source, 0), false);
-    assert_same(rt, poll(task, source), (Taken::Slot(0), false));
-    assert_same(rt, poll(task, source), (Taken::Empty, false));
-    assert_same(rt, is_woken_by(task, source, 0), true);
-    Ok(())
+fn source_of(alloc: Global, slots: usize) -> Result<SharedReady, Fail> {
+    Ok(SharedReady::new(alloc, slots)?)
 }
 
 // A poll that ends with a name leaves the task's waker with the poller, where no wake finds it: that task polls again
-// by itself.
+// by itself. A wake that finds it takes the waker out, so it is with the poller again.
 #[test]
 fn a_wake_after_a_name_wakes_nobody(rt: HostRuntime) -> Result<(), Fail> {
-    run_on(
-        one_source(&rt, 2),
-        |(task, source)| wakes_after_a_name(&rt, task, source),
-    )
-}
-
-// Whether each of the two is woken.
-fn are_woken(one: &MockTask, two: &MockTask) -> (bool, bool) {
-    (one.is_woken(), two.is_woken())
-}
-
-fn poll_nothing(task: &MockTask) {
-    task.enter(|_cx| ());
-}
-
-fn second_is_given_a_name(
-    rt: &impl Abort,
-    one: &MockTask,
-    two: &MockTask,
-    source: &mut SharedReady,
-) -> Result<(), Fail> {
-    poll_nothing(two);
-    assert_same(rt, poll(one, source), (Taken::Empty, false));
-    assert_same(rt, mark(source, 0), Some(Woke::Fresh));
-    assert_same(rt, are_woken(one, two), (false, false));
-    assert_same(rt, poll(two, source), (Taken::Slot(0), false));
-    assert_same(rt, are_woken(one, two), (true, false));
-    poll_nothing(one);
-    wake(source, 1);
-    assert_same(rt, are_woken(one, two), (false, false));
-    assert_same(rt, poll(two, source), (Taken::Slot(1), false));
-    assert_same(rt, poll(two, source), (Taken::Empty, false));
-    wake(source, 0);
-    assert_same(rt, are_woken(one, two), (false, true));
-    Ok(())
+    let script = "mark 0, poll 1, slot 0, wake 1, poll 1, slot 1, wake 0, poll 1, slot 0, poll 1, \
+        empty, wake 1, woken 1, poll 1, slot 1, wake 0, poll 1, slot 0, poll 1, empty, wake 1, woken 1";
+    plays(&rt, source_of(rt.alloc(), 2), script)
 }
 
 // A second task that is given a name takes the place of the first, which is woken by that. Wakes find the second once
 // its poll finds nothing.
 #[test]
 fn a_second_task_that_is_given_a_name_takes_the_place(rt: HostRuntime) -> Result<(), Fail> {
-    run_on(
-        two_tasks(&rt, 2),
-        |(one, two, source)| second_is_given_a_name(&rt, one, two, source),
-    )
-}
-
-fn second_finds_nothing(
-    rt: &impl Abort,
-    one: &MockTask,
-    two: &MockTask,
-    source: &mut SharedReady,
-) -> Result<(), Fail> {
-    assert_same(rt, poll(one, source), (Taken::Empty, false));
-    assert_same(rt, poll(two, source), (Taken::Empty, false));
-    assert_same(rt, are_woken(one, two), (true, false));
-    poll_nothing(one);
-    wake(source, 0);
-    assert_same(rt, are_woken(one, two), (false, true));
-    Ok(())
+    let script = "poll 1, empty, mark 0, poll 2, woken 1, slot 0, rest 1, wake 1, poll 2, slot 1, \
+        poll 2, empty, wake 0, woken 2";
+    plays(&rt, source_of(rt.alloc(), 2), script)
 }
 
 #[test]
 fn a_second_task_that_finds_nothing_takes_the_place(rt: HostRuntime) -> Result<(), Fail> {
-    run_on(
-        two_tasks(&rt, 2),
-        |(one, two, source)| second_finds_nothing(&rt, one, two, source),
-    )
-}
-
-fn second_finds_the_poller(
-    rt: &impl Abort,
-    one: &MockTask,
-    two: &MockTask,
-    source: &mut SharedReady,
-) -> Result<(), Fail> {
-    assert_same(rt, mark(source, 0), Some(Woke::Fresh));
-    assert_same(rt, poll(one, source), (Taken::Slot(0), false));
-    assert_same(rt, poll(two, source), (Taken::Empty, false));
-    assert_same(rt, are_woken(one, two), (true, false));
-    poll_nothing(one);
-    wake(source, 0);
-    assert_same(rt, are_woken(one, two), (false, true));
-    Ok(())
+    let script = "poll 1, empty, poll 2, woken 1, empty, rest 1, wake 0, woken 2";
+    plays(&rt, source_of(rt.alloc(), 2), script)
 }
 
 // A second task finds the first's waker with the poller, lets it go there, and is found in its stead.
 #[test]
 fn a_second_task_takes_the_place_with_the_poller(rt: HostRuntime) -> Result<(), Fail> {
-    run_on(
-        two_tasks(&rt, 2),
-        |(one, two, source)| second_finds_the_poller(&rt, one, two, source),
-    )
-}
-
-fn beside_finds(
-    rt: &impl Abort,
-    task: &MockTask,
-    first: &mut SharedReady,
-    second: &mut SharedReady,
-) {
-    assert_same(rt, task.is_woken(), false);
-    assert_same(rt, is_woken_by(task, second, 1), true);
-    assert_same(
-        rt,
-        (second.take(), second.take()),
-        (Taken::Slot(1), Taken::Empty),
-    );
-    assert_same(rt, first.take(), Taken::Empty);
-}
-
-fn makes_beside<R: Abort + AllocGlobal>(
-    rt: &R,
-    task: &MockTask,
-    first: &mut SharedReady,
-) -> Result<(), Fail> {
-    assert_same(rt, mark(first, 0), Some(Woke::Fresh));
-    assert_same(rt, poll(task, first), (Taken::Slot(0), false));
-    let mut second = first.make_sibling(rt.alloc(), 2)?;
-    beside_finds(rt, task, first, &mut second);
-    Ok(())
+    let script = "mark 0, poll 1, slot 0, poll 2, woken 1, empty, rest 1, wake 0, woken 2";
+    plays(&rt, source_of(rt.alloc(), 2), script)
 }
 
 // The task's waker is with the poller of the first source as the second is made, and a wake of the second finds it. The
 // making wakes nobody.
 #[test]
 fn a_source_made_beside_finds_the_task_that_waits(rt: HostRuntime) -> Result<(), Fail> {
-    run_on(
-        one_source(&rt, 1),
-        |(task, first)| makes_beside(&rt, task, first),
-    )
+    let script = "mark 0, poll 1, slot 0, sibling 2, at 1, wake 1, woken 1, slot 1, empty, at 0, \
+        empty";
+    plays(&rt, source_of(rt.alloc(), 1), script)
 }
 
 // Registers at one source and asks it, and then the other, which have nothing. A wake of either then finds the task,
 // and the next one does not.
-fn try_pair(
-    rt: &impl Abort,
-    task: &MockTask,
-    registered: &mut SharedReady,
-    asked: &mut SharedReady,
-) {
-    assert_same(rt, poll(task, registered), (Taken::Empty, false));
-    assert_same(rt, (asked.take(), task.is_woken()), (Taken::Empty, false));
-    assert_same(rt, is_woken_by(task, asked, 0), true);
-    poll_nothing(task);
-    assert_same(rt, is_woken_by(task, registered, 0), false);
-    assert_same(
-        rt,
-        (asked.take(), registered.take()),
-        (Taken::Slot(0), Taken::Slot(0)),
-    );
-    assert_same(rt, poll(task, registered), (Taken::Empty, false));
-    assert_same(rt, (asked.take(), task.is_woken()), (Taken::Empty, false));
-    assert_same(rt, is_woken_by(task, registered, 0), true);
-    assert_same(
-        rt,
-        (registered.take(), registered.take()),
-        (Taken::Slot(0), Taken::Empty),
-    );
-}
-
-// The same of each two of three sources.
-fn try_three<R: Abort + AllocGlobal>(
-    rt: &R,
-    task: &MockTask,
-    first: &mut SharedReady,
-    second: &mut SharedReady,
-) -> Result<(), Fail> {
-    let mut third = second.make_sibling(rt.alloc(), 1)?;
-    try_pair(rt, task, first, second);
-    try_pair(rt, task, second, first);
-    try_pair(rt, task, first, &mut third);
-    try_pair(rt, task, &mut third, second);
+fn play_pair<R>(rt: &R, tasks: &mut Scene, (a, b): (usize, usize)) -> Result<(), Fail>
+where
+    R: Abort + AllocGlobal,
+{
+    let script = format!(in rt.alloc();
+        "at {a}, poll 1, empty, at {b}, empty, wake 0, woken 1, rest 1, at {a}, wake 0, \
+        at {b}, slot 0, at {a}, slot 0, poll 1, empty, at {b}, empty, at {a}, wake 0, woken 1, slot 0, empty"
+    )?;
+    play(rt, tasks, script.as_str());
     Ok(())
 }
 
 // One registration covers all sources that stand beside one another.
 #[test]
 fn sources_beside_one_another_wake_one_task(rt: HostRuntime) -> Result<(), Fail> {
-    run_on(
-        two_sources(&rt),
-        |(task, first, second)| try_three(&rt, task, first, second),
-    )
-}
-
-fn wakes_beside(
-    rt: &impl Abort,
-    task: &MockTask,
-    first: &mut SharedReady,
-    second: &mut SharedReady,
-) -> Result<(), Fail> {
-    assert_same(rt, mark(first, 0), Some(Woke::Fresh));
-    assert_same(rt, poll(task, first), (Taken::Slot(0), false));
-    assert_same(rt, is_woken_by(task, second, 0), false);
-    assert_same(rt, poll(task, first), (Taken::Empty, false));
-    assert_same(rt, second.take(), Taken::Slot(0));
-    assert_same(rt, is_woken_by(task, second, 0), true);
-    assert_same(rt, poll(task, second), (Taken::Slot(0), false));
-    assert_same(rt, is_woken_by(task, first, 0), false);
+    let mut tasks = Tasks::new(&rt, source_of(rt.alloc(), 1))?;
+    play(&rt, &mut tasks, "rest 1, rest 2, sibling 1, sibling 1");
+    for pair in [(0, 1), (1, 0), (0, 2), (2, 1)] {
+        play_pair(&rt, &mut tasks, pair)?;
+    }
     Ok(())
 }
 
 // Of sources beside one another too, wakes find the task only once its poll found nothing.
 #[test]
 fn a_wake_beside_finds_the_task_once_its_poll_found_nothing(rt: HostRuntime) -> Result<(), Fail> {
-    run_on(
-        two_sources(&rt),
-        |(task, first, second)| wakes_beside(&rt, task, first, second),
-    )
-}
-
-fn earlier_comes_later(
-    rt: &impl Abort,
-    task: &MockTask,
-    first: &mut SharedReady,
-    second: &mut SharedReady,
-) -> Result<(), Fail> {
-    assert_same(rt, mark(second, 0), Some(Woke::Fresh));
-    assert_same(rt, poll(task, second), (Taken::Slot(0), false));
-    assert_same(rt, poll(task, first), (Taken::Empty, false));
-    assert_same(rt, (second.take(), task.is_woken()), (Taken::Empty, true));
-    assert_same(rt, poll(task, first), (Taken::Empty, false));
-    assert_same(rt, (second.take(), task.is_woken()), (Taken::Empty, false));
-    Ok(())
+    let script = "sibling 1, mark 0, poll 1, slot 0, at 1, wake 0, at 0, poll 1, empty, at 1, \
+        slot 0, wake 0, woken 1, poll 1, slot 0, at 0, wake 0";
+    plays(&rt, source_of(rt.alloc(), 1), script)
 }
 
 // The waker of an earlier poll lies with one source as the other's is put in. Where it is put in too, the one that it
 // replaces wakes the task, once.
 #[test]
 fn an_earlier_waker_that_comes_later_wakes_the_task(rt: HostRuntime) -> Result<(), Fail> {
-    run_on(
-        two_sources(&rt),
-        |(task, first, second)| earlier_comes_later(&rt, task, first, second),
-    )
+    let script = "sibling 1, at 1, mark 0, poll 1, slot 0, at 0, poll 1, empty, at 1, empty, \
+        woken 1, at 0, poll 1, empty, at 1, empty";
+    plays(&rt, source_of(rt.alloc(), 1), script)
 }
 
 // A wake of this slot wakes the task that waits, and marks the slot.
-fn try_slot(rt: &impl Abort, task: &MockTask, source: &mut SharedReady, slot: usize) {
-    assert_same(rt, poll(task, source), (Taken::Empty, false));
-    assert_same(rt, is_woken_by(task, source, slot), true);
-    assert_same(rt, source.take(), Taken::Slot(slot));
+fn try_slot<R: Abort + AllocGlobal>(rt: &R, tasks: &mut Scene, slot: usize) -> Result<(), Fail> {
+    let script = format!(in rt.alloc(); "poll 1, empty, wake {slot}, woken 1, slot {slot}")?;
+    play(rt, tasks, script.as_str());
+    Ok(())
 }
 
 // The last slot of so many, the one in the middle and the first.
-fn try_slots(rt: &impl Abort, alloc: Global, task: &MockTask, slots: usize) -> Result<(), Fail> {
-    let mut source: SharedReady = SharedReady::new(alloc, slots)?;
-    try_slot(rt, task, &mut source, slots.saturating_sub(1));
-    try_slot(rt, task, &mut source, slots / 2);
-    try_slot(rt, task, &mut source, 0);
-    Ok(())
+fn try_slots<R: Abort + AllocGlobal + RandomSource>(rt: &R, slots: usize) -> Result<(), Fail> {
+    let mut tasks = Tasks::new(rt, source_of(rt.alloc(), slots))?;
+    try_slot(rt, &mut tasks, slots.saturating_sub(1))?;
+    try_slot(rt, &mut tasks, slots / 2)?;
+    try_slot(rt, &mut tasks, 0)
 }
 
 // Numbers of slots about those at which a word, a byte or two bytes are full.
@@ -345,60 +121,46 @@ const FULL: [usize; 16] = [
 
 #[test]
 fn a_wake_of_the_last_slot_wakes_the_task(rt: HostRuntime) -> Result<(), Fail> {
-    let task = MockTask::new(&rt)?;
     for slots in FULL {
-        try_slots(&rt, rt.alloc(), &task, slots)?;
+        try_slots(&rt, slots)?;
     }
     Ok(())
 }
 
 // Each slot of so many, of a source and of one made beside it.
-fn try_each_slot(
-    rt: &impl Abort,
-    alloc: Global,
-    task: &MockTask,
-    slots: usize,
-) -> Result<(), Fail> {
-    let mut source: SharedReady = SharedReady::new(alloc, slots)?;
-    let mut beside = source.make_sibling(alloc, slots)?;
+fn try_each_slot<R: Abort + AllocGlobal + RandomSource>(rt: &R, slots: usize) -> Result<(), Fail> {
+    let mut tasks = Tasks::new(rt, source_of(rt.alloc(), slots))?;
+    assert_same(rt, tasks.add_sibling(slots), None);
     for slot in 0..slots {
-        try_slot(rt, task, &mut source, slot);
-        try_slot(rt, task, &mut beside, slot);
+        play(rt, &mut tasks, "at 0");
+        try_slot(rt, &mut tasks, slot)?;
+        play(rt, &mut tasks, "at 1");
+        try_slot(rt, &mut tasks, slot)?;
     }
     Ok(())
 }
 
 #[test]
 fn a_wake_of_each_slot_of_nine_sizes_wakes_the_task(rt: HostRuntime) -> Result<(), Fail> {
-    let task = MockTask::new(&rt)?;
     for slots in [1, 8, 9, 63, 64, 65, 100, 128, 256] {
-        try_each_slot(&rt, rt.alloc(), &task, slots)?;
+        try_each_slot(&rt, slots)?;
     }
-    Ok(())
-}
-
-fn sibling_is_refused<R: Abort + AllocGlobal>(
-    rt: &R,
-    task: &MockTask,
-    source: &mut SharedReady,
-) -> Result<(), Fail> {
-    assert_same(rt, mark(source, 0), Some(Woke::Fresh));
-    assert_same(rt, poll(task, source), (Taken::Slot(0), false));
-    let large = source.make_sibling(rt.alloc(), MAX_CAPACITY + 1);
-    assert_same(rt, large.err(), Some(NewFault::TooLarge));
-    let largest = source.make_sibling(rt.alloc(), MAX_CAPACITY);
-    assert_same(rt, largest.err(), Some(NewFault::Memory));
-    assert_same(rt, task.is_woken(), false);
     Ok(())
 }
 
 // The task's waker is with the poller when a sibling is refused, as too large and for want of memory.
 #[test]
 fn a_refused_sibling_does_not_wake_the_task(rt: HostRuntime) -> Result<(), Fail> {
-    run_on(
-        one_source(&rt, 1),
-        |(task, source)| sibling_is_refused(&rt, task, source),
-    )
+    let mut tasks = Tasks::new(&rt, source_of(rt.alloc(), 1))?;
+    play(&rt, &mut tasks, "mark 0, poll 1, slot 0");
+    assert_same(
+        &rt,
+        tasks.add_sibling(MAX_CAPACITY + 1),
+        Some(NewFault::TooLarge),
+    );
+    assert_same(&rt, tasks.add_sibling(MAX_CAPACITY), Some(NewFault::Memory));
+    play(&rt, &mut tasks, "end");
+    Ok(())
 }
 
 // A waker of this task.
@@ -409,29 +171,19 @@ fn waker_of(task: &MockTask) -> Option<Waker> {
     kept
 }
 
-fn waits_after_a_hand_in(
-    rt: &impl Abort,
-    one: &MockTask,
-    two: &MockTask,
-    source: &mut SharedReady,
-) -> Result<(), Fail> {
-    register(one, source);
-    source.set_outer(waker_of(two).ok_or("no waker")?);
-    assert_same(rt, are_woken(one, two), (false, false));
-    assert_same(rt, source.take(), Taken::Empty);
-    assert_same(rt, are_woken(one, two), (false, true));
-    poll_nothing(two);
-    wake(source, 0);
-    assert_same(rt, are_woken(one, two), (true, false));
-    Ok(())
+fn hand_in(tasks: &mut Scene) {
+    if let (Some(waker), Some(source)) = (waker_of(tasks.task(2)), tasks.sources.get_mut(0)) {
+        source.set_outer(waker);
+    }
 }
 
 // The waker of a task that is registered lies where wakes find it before its poll finds nothing, in place of one that
 // was handed in.
 #[test]
 fn a_task_that_waits_takes_the_place_of_what_was_handed_in(rt: HostRuntime) -> Result<(), Fail> {
-    run_on(
-        two_tasks(&rt, 1),
-        |(one, two, source)| waits_after_a_hand_in(&rt, one, two, source),
-    )
+    let mut tasks = Tasks::new(&rt, source_of(rt.alloc(), 1))?;
+    play(&rt, &mut tasks, "rest 2, poll 1");
+    hand_in(&mut tasks);
+    play(&rt, &mut tasks, "empty, woken 2, rest 2, wake 0, woken 1");
+    Ok(())
 }

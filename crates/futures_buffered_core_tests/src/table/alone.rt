@@ -23,6 +23,7 @@ pub struct Alone {
     list: ReadyList,
     poll: PollSeat,
     seat: WakeSeat,
+    pub wakes: u64,
 }
 
 impl Model for Alone {
@@ -38,7 +39,12 @@ impl Model for Alone {
 impl Alone {
     pub fn new(rt: &impl Abort, alloc: Global, capacity: usize) -> Alone {
         let (list, poll, seat) = list_of(rt, alloc, capacity);
-        Alone { list, poll, seat }
+        Alone {
+            list,
+            poll,
+            seat,
+            wakes: 0,
+        }
     }
 
     pub fn capacity(&self) -> usize {
@@ -75,7 +81,12 @@ impl Alone {
 
     // Closes the list: whether just these slots were left marked.
     pub fn closes_with(self, alloc: Global, wanted: &[usize]) -> Result<bool, AllocError> {
-        let Alone { list, poll, seat } = self;
+        let Alone {
+            list,
+            poll,
+            seat,
+            ..
+        } = self;
         let seats = vec![in alloc; seat]?;
         let capacity = list.capacity();
         let closed = list.close(poll, seats);

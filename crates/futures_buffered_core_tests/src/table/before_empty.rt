@@ -3,8 +3,9 @@ ghost use Rattle.std.specs.Prelude.{◌≡◌, true};
 ghost use Rattle.futures_buffered_table.specs.declared.answer.Taken.TheVariants.{Empty};
 
 use crate::same::assert_same;
+use crate::script::{Scene, play, says_mark, says_take};
 use crate::table::alone::{Alone, list_of};
-use futures_buffered_table::answer::{Taken, Woke};
+use futures_buffered_table::answer::Taken;
 use futures_buffered_table::ready_table::{BeforeEmpty, PollSeat, ReadyList, StepsMade};
 use std::process::Abort;
 use std::test::Fail;
@@ -21,29 +22,34 @@ impl BeforeEmpty for Calls {
     }
 }
 
-// Takes, and wants this answer and this many calls.
-fn takes(rt: &impl Abort, list: &mut Alone, wanted: Taken, count: u64) {
+// A taking that finds no slot makes one call, and any other none.
+fn takes(list: &mut Alone, word: &str, n: usize) -> bool {
     let mut calls = Calls { count: 0 };
-    assert_same(rt, list.take_with(&mut calls), wanted);
-    assert_same(rt, calls.count, count);
+    let taken = list.take_with(&mut calls);
+    says_take(word, n, taken) && calls.count == u64::from(taken == Taken::Empty)
+}
+
+/// A word that begins with `new_` is a wake by a new seat.
+impl Scene for Alone {
+    fn does(&mut self, word: &str, n: usize) -> bool {
+        match word {
+            "end" => true,
+            "slot" | "empty" => takes(self, word, n),
+            _ => match word.strip_prefix("new_") {
+                Some(word) => says_mark(word, self.wake_anew(n)),
+                None => says_mark(word, self.wake(n)),
+            },
+        }
+    }
 }
 
 // One call at each Empty, none where a slot is taken, be it the last one or not.
 #[test]
 fn calls_at_empty_alone(rt: HostRuntime) -> Result<(), Fail> {
     let mut list = Alone::new(&rt, rt.alloc(), 3);
-    takes(&rt, &mut list, Taken::Empty, 1);
-    takes(&rt, &mut list, Taken::Empty, 1);
-    assert_same(&rt, list.wake(0), Some(Woke::Fresh));
-    takes(&rt, &mut list, Taken::Slot(0), 0);
-    takes(&rt, &mut list, Taken::Empty, 1);
-    assert_same(&rt, list.wake(2), Some(Woke::Fresh));
-    assert_same(&rt, list.wake(0), Some(Woke::Fresh));
-    assert_same(&rt, list.wake(1), Some(Woke::Fresh));
-    takes(&rt, &mut list, Taken::Slot(2), 0);
-    takes(&rt, &mut list, Taken::Slot(0), 0);
-    takes(&rt, &mut list, Taken::Slot(1), 0);
-    takes(&rt, &mut list, Taken::Empty, 1);
+    let script = "empty, empty, mark 0, slot 0, empty, mark 2, mark 0, mark 1, slot 2, slot 0, \
+        slot 1, empty";
+    play(&rt, &mut list, script);
     Ok(())
 }
 

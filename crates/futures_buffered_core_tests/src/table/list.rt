@@ -18,14 +18,10 @@ fn a_split_seat_marks_nothing(rt: HostRuntime) -> Result<(), Fail> {
 
 #[test]
 fn too_large(rt: HostRuntime) -> Result<(), Fail> {
-    match ReadyList::new(rt.alloc(), MAX_CAPACITY + 1) {
-        Ok(_) => panic!(rt; "a list without end"),
-        Err(fault) => assert_same(&rt, fault, NewFault::TooLarge),
-    }
-    match ReadyList::new(rt.alloc(), MAX_CAPACITY) {
-        Ok(_) => panic!(rt; "a list of all memory"),
-        Err(fault) => assert_same(&rt, fault, NewFault::Memory),
-    }
+    let above = ReadyList::new(rt.alloc(), MAX_CAPACITY + 1);
+    assert_same(&rt, above.err(), Some(NewFault::TooLarge));
+    let largest = ReadyList::new(rt.alloc(), MAX_CAPACITY);
+    assert_same(&rt, largest.err(), Some(NewFault::Memory));
     Ok(())
 }
 
@@ -38,10 +34,8 @@ fn closes_with_a_mark(rt: HostRuntime) -> Result<(), Fail> {
     assert_same(&rt, list.take(&mut poll), Taken::Slot(0));
     let seats = vec![in rt.alloc(); one, two]?;
     let closed = list.close(poll, seats);
-    let first = closed.marked(0);
-    let second = closed.marked(1);
+    let marked = (closed.marked(0), closed.marked(1));
     closed.free();
-    assert!(rt; !first);
-    assert!(rt; second);
+    assert_same(&rt, marked, (false, true));
     Ok(())
 }

@@ -6,20 +6,13 @@ use std::alloc::{AllocError, Global};
 use std::process::Abort;
 use std::test::Fail;
 
-fn mark(seat: usize, slot: usize) -> Step {
-    Step::Mark { seat, slot }
-}
-
-fn go(seat: usize) -> Step {
-    Step::Go { seat }
-}
-
 // A step of 4 seats and 3 slots, by a number: wakers and poller have about as many.
 fn step_by(number: u64) -> Step {
     let seat = ((number >> 33) % 4) as usize;
+    let slot = ((number >> 50) % 3) as usize;
     match (number >> 40) % 8 {
-        0 | 1 => mark(seat, ((number >> 50) % 3) as usize),
-        2 | 3 | 4 => go(seat),
+        0 | 1 => Step::Mark { seat, slot },
+        2 | 3 | 4 => Step::Go { seat },
         _ => Step::Poll,
     }
 }
@@ -71,7 +64,7 @@ impl Schedule {
             Err(_) => panic!(rt; "a step of a legal schedule was refused"),
         }
         let count = self.made.len();
-        self.made.push(go(4))?;
+        self.made.push(Step::Go { seat: 4 })?;
         assert!(rt; steps(alloc, 3, self.made.as_slice()) == Err(StepFault::Step(count)));
         Ok(())
     }

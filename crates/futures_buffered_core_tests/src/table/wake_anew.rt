@@ -1,36 +1,15 @@
 //! Wakes by a seat that is made with its first step.
-use crate::same::assert_same;
+use crate::script::play;
 use crate::table::alone::Alone;
-use futures_buffered_table::answer::{Taken, Woke};
-use std::process::Abort;
 use std::test::Fail;
-
-const FRESH: Option<Woke> = Some(Woke::Fresh);
-
-const ALREADY: Option<Woke> = Some(Woke::Already);
-
-// Takes, and wants these answers.
-fn takes(rt: &impl Abort, list: &mut Alone, wanted: &[Taken]) {
-    for taken in wanted {
-        assert_same(rt, list.take(), *taken);
-    }
-}
 
 // A new seat wakes as an old one does, and wakes again.
 #[test]
 fn fresh_and_already(rt: HostRuntime) -> Result<(), Fail> {
     let mut list = Alone::new(&rt, rt.alloc(), 3);
-    assert_same(&rt, list.wake_anew(2), FRESH);
-    assert_same(&rt, list.wake_anew(2), ALREADY);
-    assert_same(&rt, list.wake(2), ALREADY);
-    assert_same(&rt, list.wake(0), FRESH);
-    assert_same(&rt, list.wake_anew(0), ALREADY);
-    assert_same(&rt, list.wake_anew(3), None);
-    takes(&rt, &mut list, &[Taken::Slot(2)]);
-    assert_same(&rt, list.wake_anew(2), FRESH);
-    assert_same(&rt, list.wake(1), FRESH);
-    takes(&rt, &mut list, &[Taken::Slot(0), Taken::Slot(2)]);
-    assert_same(&rt, list.wake_anew(0), FRESH);
+    let script = "new_mark 2, new_marked 2, marked 2, mark 0, new_marked 0, new_none 3, slot 2, \
+        new_mark 2, mark 1, slot 0, slot 2, new_mark 0";
+    play(&rt, &mut list, script);
     assert!(rt; list.closes_with(rt.alloc(), &[0, 1])?);
     Ok(())
 }
