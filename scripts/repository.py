@@ -66,7 +66,7 @@ def functions_in(text):
     """Each function of a source that has a body, but none inside another function."""
     blank = lambda part: re.sub(r"[^\n]", " ", part)
     text = re.sub(r"//[^\n]*|\"(\\.|[^\"\\])*\"|'(\\[^\n]|[^\\'\n])'", lambda found: blank(found[0]), text)
-    for found in re.finditer(r"\b(requires|ensures|ghost)\b", text):
+    for found in re.finditer(r"\b(requires|ensures)\b", text):
         end = end_of_clause(text, found.start())
         text = text[: found.start()] + blank(text[found.start() : end]) + " " + text[end + 1 :]
     end = 0
