@@ -3,6 +3,7 @@ of the libraries.
 
     python3 scripts/repository.py     prints the crates, one in each line
 """
+import collections
 import pathlib
 import re
 import shutil
@@ -55,6 +56,25 @@ def clauses_in(text):
     text = re.sub(r"//[^\n]*", "", text)
     for found in re.finditer(r"\b(requires|ensures|ghost)\b", text):
         yield " ".join(text[found.start() : end_of_clause(text, found.start())].split())
+
+
+# A function of a source: its lines, and where its body begins and ends.
+Function = collections.namedtuple("Function", "name first_line last_line body end")
+
+
+def functions_in(text):
+    """Each function of a source that has a body, but none inside another function."""
+    blank = lambda part: re.sub(r"[^\n]", " ", part)
+    text = re.sub(r"//[^\n]*|\"(\\.|[^\"\\])*\"|'(\\[^\n]|[^\\'\n])'", lambda found: blank(found[0]), text)
+    for found in re.finditer(r"\b(requires|ensures)\b", text):
+        end = end_of_clause(text, found.start())
+        text = text[: found.start()] + blank(text[found.start() : end]) + " " + text[end + 1 :]
+    end = 0
+    for found in re.finditer(r"\bfn (\w+)([^{};\[]|\[[^\]]*\])*\{", text):
+        if found.start() >= end:
+            end = end_of_clause(text, found.end() - 1)
+            first, last = (text.count("\n", 0, place) + 1 for place in (found.start(), end))
+            yield Function(found[1], first, last, found.end(), end)
 
 
 def run(words, folder=None):
