@@ -1,29 +1,12 @@
 -- A list begins with its row, full or not: a full list has the words and the steps that wakes of its slots, in order,
 -- leave.
 use Rattle.std.proofs.Common.{◌≡◌, ◌≢◌, ℕ, zero, suc, ◌+◌, ◌<◌, ◌≤◌, List, [], ◌∷◌, ◌++◌, Bool, true, false, length, get_or, set, refl, sym, ap, ◌∙◌, subst, ⊎_elim, arith, append_assoc, length-set, get_or-set_other, get_or-set_same}
-use Rattle.std.proofs.lemmas.List.{set-get_or}
-use mathlib.Core.Option.{some, some-injective, some-ne-none}
-use lib.ListN.{get_elem?}
-use Rattle.atomic_table.proofs.Lists.{at_set, at_snoc}
-use Rattle.atomic_table.specs.Seated.{TableId}
-use Rattle.atomic_table.specs.Table.{Me, State, Splits}
+use Rattle.futures_buffered_table.proofs.Common.{AtomicStep, MarkSwap, LinkClear, TailSwap, LinkWrite, Phase, Start, Role, Idle, Won, Cleared, Swapped, Polls, View, owed_by, total, FitsRole, KeepsRow, outside_by, empty_words, link, mark, tail, tail_at, unmarks, wins, next_role, put_by_role, step_of_role, word_of_role, first_poller, new_waker_beside, HoldsRow, Me, State, TableId, at_set, at_snoc, set-get_or, some, some-injective, some-ne-none, get_elem?}
+use Rattle.atomic_table.specs.Table.{Splits}
 use Rattle.futures_buffered_table.specs.declared.rule.ListKey.{ListKey}
-use Rattle.futures_buffered_table.specs.declared.view.AtomicStep.{AtomicStep}
-use Rattle.futures_buffered_table.specs.declared.view.AtomicStep.TheVariants.{MarkSwap, LinkClear, TailSwap, LinkWrite}
-use Rattle.futures_buffered_table.specs.declared.view.Phase.{Phase}
-use Rattle.futures_buffered_table.specs.declared.view.Phase.TheVariants.{Start}
-use Rattle.futures_buffered_table.specs.declared.view.Role.{Role}
-use Rattle.futures_buffered_table.specs.declared.view.Role.TheVariants.{Idle, Won, Cleared, Swapped, Polls}
-use Rattle.futures_buffered_table.specs.declared.view.View.{View}
 use Rattle.futures_buffered_table.specs.Beginning.{all_wakes, entry_before, first_view, full_words, steps_at_first, wake_in_order, wakes_in_order, words_at_first, words_in_order}
-use Rattle.futures_buffered_table.specs.Effect.{next_role, put_by_role, step_of_role, word_of_role}
 use Rattle.futures_buffered_table.specs.ReadyListInvariant.{KeepsPoller, KeepsWaker}
-use Rattle.futures_buffered_table.specs.Row.{owed_by, total}
-use Rattle.futures_buffered_table.specs.RowInvariant.{FitsRole, KeepsRow, outside_by}
-use Rattle.futures_buffered_table.specs.Rule.{HoldsRow}
-use Rattle.futures_buffered_table.specs.Tally.{unmarks, wins}
-use Rattle.futures_buffered_table.specs.View.{first_poller, new_waker_beside, waker_with_steps_of, without_steps}
-use Rattle.futures_buffered_table.specs.Words.{link, mark, tail, tail_at, empty_words}
+use Rattle.futures_buffered_table.specs.View.{waker_with_steps_of, without_steps}
 use Rattle.futures_buffered_table.proofs.EffectLemmas.{wake_keeps}
 use Rattle.futures_buffered_table.proofs.RowLemmas.{total-append, total_set}
 use Rattle.futures_buffered_table.proofs.RuleLemmas.{begins_at, grows, same_sums}

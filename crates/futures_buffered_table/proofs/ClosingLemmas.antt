@@ -1,22 +1,11 @@
 -- Wake seats that go into the poll seat, one by one, and the end of a list.
 use Rattle.std.proofs.Common.{◌≡◌, ℕ, zero, suc, ◌+◌, ◌≤◌, List, [], ◌∷◌, ◌++◌, get_or, nat_eq, true, sym, ap, ◌∙◌, subst, arith, append-nil, append_assoc, ◌<◌}
 use mathlib.Core.Bool.{not}
-use mathlib.Core.Option.{some, some-injective, some-ne-none}
-use lib.ListN.{get_elem?}
-use Rattle.futures_buffered_table.specs.declared.view.AtomicStep.{AtomicStep}
+use Rattle.futures_buffered_table.proofs.Common.{AtomicStep, Phase, Polls, View, FitsRole, mark, unmarks, wins, HoldsRow, Whereabouts, Waker, some, some-injective, some-ne-none, get_elem?}
 use Rattle.atomic_table.specs.Table.{Final, Seen}
-use Rattle.futures_buffered_table.specs.declared.view.Phase.{Phase}
-use Rattle.futures_buffered_table.specs.declared.view.Role.TheVariants.{Polls}
-use Rattle.futures_buffered_table.specs.declared.view.View.{View}
-use Rattle.futures_buffered_table.specs.ReadyList.{Waker}
 use Rattle.futures_buffered_table.specs.Closing.{steps_of}
-use Rattle.futures_buffered_table.specs.Tally.{unmarks, wins}
 use Rattle.futures_buffered_table.proofs.TallyLemmas.{wins-append}
-use Rattle.futures_buffered_table.specs.RowInvariant.{FitsRole}
-use Rattle.futures_buffered_table.specs.Rule.{HoldsRow}
-use Rattle.futures_buffered_table.specs.Words.{mark}
 use Rattle.futures_buffered_table.proofs.RowLemmas.{total_at, total_one}
-use Rattle.futures_buffered_table.specs.Whereabouts.{Whereabouts}
 use Rattle.futures_buffered_table.proofs.WhereaboutsLemmas.{whereabouts}
 
 pub joined_on : (mine now whole : List AtomicStep) (left : List Waker) (s : Waker) (rest : List Waker) → left ≡ s ∷ rest →

@@ -1,25 +1,12 @@
 -- The step of each role stays in range, and keeps the row (`KeepsRow`).
 use Rattle.std.proofs.Common.{◌≡◌, ◌≢◌, ℕ, zero, suc, ◌+◌, ◌<◌, ◌≤◌, List, [], ◌∷◌, length, set, get_or, refl, sym, ap, ◌∙◌, ⊎_elim, arith, ◌++◌, subst, append-nil, ◌⊎◌, inl, inr}
 use Rattle.std.specs.Prelude.{if◌then◌else◌, ◌==◌}
-use mathlib.Core.Option.{some, some-injective}
-use lib.ListN.{get_elem?}
-use Rattle.futures_buffered_table.specs.declared.view.Phase.{Phase}
-use Rattle.futures_buffered_table.specs.declared.view.Phase.TheVariants.{Start, AtStub, Moved, NoNext, Last, StubCleared, StubPut, StubLinked, InHand}
-use Rattle.futures_buffered_table.specs.declared.view.Role.{Role}
-use Rattle.futures_buffered_table.specs.declared.view.Role.TheVariants.{Idle, Won, Cleared, Swapped, Polls}
-use Rattle.futures_buffered_table.specs.declared.view.View.{View}
+use Rattle.futures_buffered_table.proofs.Common.{AtomicStep, MarkSwap, LinkClear, TailSwap, LinkWrite, LinkRead, TailRead, Unmark, Phase, Start, AtStub, Moved, NoNext, Last, StubCleared, StubPut, StubLinked, InHand, Role, Idle, Won, Cleared, Swapped, Polls, View, last_entry, next, owed, owed_by, same, times, FitsPhase, FitsRole, KeepsRow, outside, outside_by, link, mark, tail, tail_at, is_unmark, is_win, InRange, next_role, put_by_role, step_of_role, word_of_role, set-get_or, some, some-injective, get_elem?}
 use Rattle.std.proofs.Props.{props}
-use Rattle.std.proofs.lemmas.List.{set-get_or}
 use Rattle.std.proofs.lemmas.Bool.{eqb-true, eqb-false}
-use Rattle.futures_buffered_table.specs.declared.view.AtomicStep.{AtomicStep}
-use Rattle.futures_buffered_table.specs.declared.view.AtomicStep.TheVariants.{MarkSwap, LinkClear, TailSwap, LinkWrite, LinkRead, TailRead, Unmark}
-use Rattle.futures_buffered_table.specs.Effect.{InRange, after_first_read, after_slot_read, next_role, put_by_role, step_of_role, word_of_role}
+use Rattle.futures_buffered_table.specs.Effect.{after_first_read, after_slot_read}
 use Rattle.futures_buffered_table.proofs.RowLemmas.{Flows, next_first, next_last, row_slots, same_else, same_here, slots_put, slots_put_stub, slots_slot, slots_stub, total_none, total_some}
-use Rattle.futures_buffered_table.specs.RowInvariant.{FitsPhase, FitsRole, KeepsRow, outside, outside_by}
 use Rattle.futures_buffered_table.proofs.RowInvariantLemmas.{clears, goes_on, links_up, puts_in, quiet, takes_stub, unmarks_slot, wins_mark, head_low}
-use Rattle.futures_buffered_table.specs.Words.{link, mark, tail, tail_at}
-use Rattle.futures_buffered_table.specs.Row.{last_entry, next, owed, owed_by, same, times}
-use Rattle.futures_buffered_table.specs.Tally.{is_unmark, is_win}
 use Rattle.futures_buffered_table.proofs.ListLemmas.{by_test}
 
 pub word_range : (n slot : ℕ) (role : Role) → slot ≤ n → InRange n role → word_of_role n slot role < n + n + 2

@@ -2,9 +2,8 @@
 use Rattle.std.proofs.Common.{◌≡◌, ℕ, ◌≤◌, List, ◌∷◌, sym, ◌∙◌, subst, arith}
 use Rattle.futures_buffered_table.specs.Laws.{RuleEmptiesRow, RulePlacesSlots}
 use Rattle.futures_buffered_table.proofs.WhereaboutsLemmas.{whereabouts}
-use Rattle.futures_buffered_table.specs.RowInvariant.{FitsRole}
+use Rattle.futures_buffered_table.proofs.Common.{last_entry, times, FitsRole}
 use Rattle.futures_buffered_table.proofs.RowLemmas.{alone}
-use Rattle.futures_buffered_table.specs.Row.{last_entry, times}
 
 pub places_slots : RulePlacesSlots
 places_slots = λ n s held. whereabouts n held.0 held.1 held.2 s.words s.views held.3

@@ -1,3 +1,4 @@
+pub mod Common
 pub mod ListLemmas
 pub mod WordsLemmas
 pub mod ViewLemmas

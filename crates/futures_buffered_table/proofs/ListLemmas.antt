@@ -1,10 +1,9 @@
 -- Lists, read by place, and a choice by a test.
 use Rattle.std.proofs.Common.{◌≡◌, ◌⊎◌, ℕ, zero, suc, ◌+◌, ◌<◌, List, [], ◌∷◌, ◌++◌, length, get_or, replicate, Bool, true, false, refl, sym, ap, inl, inr, ⊎_elim, arith}
 use Rattle.std.specs.Prelude.{if◌then◌else◌}
-use Rattle.std.proofs.lemmas.List.{get_or_default, length-append, length-replicate}
-use mathlib.Core.Option.{some, some-injective, some-ne-none}
-use lib.ListN.{get_elem?}
-use Rattle.atomic_table.proofs.Lists.{at_index, at_last}
+use Rattle.futures_buffered_table.proofs.Common.{at_last, get_or_default, length-replicate, some, some-injective, some-ne-none, get_elem?}
+use Rattle.std.proofs.lemmas.List.{length-append}
+use Rattle.atomic_table.proofs.Lists.{at_index}
 
 pub elem_at : {X : Type 0} (xs : List X) (k : ℕ) (d : X) → k < length xs → get_elem? xs k ≡ some (get_or xs k d)
 elem_at xs k d lt = at_index xs k (get_or xs k d) lt (get_or_default xs k d (get_or xs k d) lt)

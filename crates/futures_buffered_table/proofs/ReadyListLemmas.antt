@@ -1,19 +1,10 @@
 -- A seat of a list, and the steps that it makes.
 use Rattle.std.proofs.Common.{◌≡◌, ℕ, ◌+◌, ◌<◌, ◌≤◌, List, ◌++◌, sym, ap, ◌∙◌, arith, append_assoc, inl, inr, refl}
 use mathlib.Core.Option.{none}
-use Rattle.atomic_table.specs.Table.{step as table_step, Allows}
-use Rattle.futures_buffered_table.specs.declared.view.AtomicStep.{AtomicStep}
-use Rattle.futures_buffered_table.specs.declared.view.Role.{Role}
-use Rattle.futures_buffered_table.specs.declared.view.Role.TheVariants.{Polls}
-use Rattle.futures_buffered_table.specs.declared.view.Phase.TheVariants.{Moved, StubLinked}
+use Rattle.futures_buffered_table.proofs.Common.{AtomicStep, Moved, StubLinked, Role, Polls, View, next_view, put_by_role, word_of_role, HoldsRow, MayFind, PlaysRole, AddsSteps, IsInRole, ListIdentity, Allows, Seat, TableId}
+use Rattle.atomic_table.specs.Table.{step as table_step}
 use Rattle.futures_buffered_table.specs.Taking.{ReadsSlot}
-use Rattle.futures_buffered_table.specs.declared.view.View.{View}
-use Rattle.atomic_table.specs.Seated.{TableId}
-use Rattle.atomic_table.specs.declared.shared.Seat.{Seat}
 use Rattle.futures_buffered_table.specs.ReadyListInvariant.{KeepsList, KeepsSeat}
-use Rattle.futures_buffered_table.specs.ReadyList.{AddsSteps, IsInRole, ListIdentity}
-use Rattle.futures_buffered_table.specs.Rule.{HoldsRow, MayFind, PlaysRole}
-use Rattle.futures_buffered_table.specs.Effect.{next_view, put_by_role, word_of_role}
 use Rattle.futures_buffered_table.proofs.RuleLemmas.{SlotHandle, seated, is_seated, allows_step, allows_store}
 
 module _ (table : TableId) (key n : ℕ) (L : KeepsList table key n) (seen : ListIdentity)

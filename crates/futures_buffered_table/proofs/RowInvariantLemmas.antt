@@ -1,22 +1,9 @@
 -- Each kind of step keeps the row (`KeepsRow`).
 use Rattle.std.proofs.Common.{◌≡◌, ◌≢◌, ℕ, suc, ◌+◌, ◌<◌, ◌≤◌, List, [], ◌∷◌, length, set, get_or, refl, sym, ap, ◌∙◌, ⊎_elim, arith, ◌⊎◌, ◌++◌, subst, length-set, get_or-set_other, get_or-set_same, length-append}
-use mathlib.Core.Option.{some}
-use lib.ListN.{get_elem?}
-use Rattle.atomic_table.proofs.Lists.{at_set}
-use Rattle.futures_buffered_table.specs.declared.view.Phase.{Phase}
-use Rattle.futures_buffered_table.specs.declared.view.Phase.TheVariants.{StubCleared, StubPut}
-use Rattle.futures_buffered_table.specs.declared.view.Role.{Role}
-use Rattle.futures_buffered_table.specs.declared.view.Role.TheVariants.{Cleared, Swapped, Polls}
-use Rattle.futures_buffered_table.specs.declared.view.View.{View}
-use Rattle.futures_buffered_table.specs.declared.view.AtomicStep.{AtomicStep}
-use Rattle.futures_buffered_table.specs.RowInvariant.{FitsPhase, FitsRole, KeepsRow, outside, outside_by}
+use Rattle.futures_buffered_table.proofs.Common.{AtomicStep, Phase, StubCleared, StubPut, Role, Cleared, Swapped, Polls, View, IsLinked, last_entry, next, owed, owed_by, same, times, total, FitsPhase, FitsRole, KeepsRow, outside, outside_by, empty_words, link, mark, tail, tail_at, is_unmark, is_win, unmarks, wins, first_poller, first_views, new_waker_beside, at_set, some, get_elem?}
 use Rattle.futures_buffered_table.proofs.RowLemmas.{last_in, last_snoc, next_absent, next_kept, next_last, next_later, next_put, next_stays, same_cases, same_else, same_here, times_snoc, total-append, total_at, total_set, total_none}
-use Rattle.futures_buffered_table.specs.Row.{IsLinked, last_entry, next, owed, owed_by, same, times, total}
-use Rattle.futures_buffered_table.specs.Words.{link, mark, tail, tail_at, empty_words}
-use Rattle.futures_buffered_table.specs.Tally.{is_unmark, is_win, unmarks, wins}
 use Rattle.futures_buffered_table.proofs.ViewLemmas.{each_first}
 use Rattle.futures_buffered_table.proofs.WordsLemmas.{empty_word, empty_tail, empty_wide}
-use Rattle.futures_buffered_table.specs.View.{first_views, first_poller, new_waker_beside}
 
 pub head_low : (n h : ℕ) (rest : List ℕ) (poller : ℕ) (words : List ℕ) (views : List View) → KeepsRow n h rest poller words views → h ≤ n
 head_low n h rest poller words views R = (R.linked h (let a = same_here h in omega arith)).0

@@ -1,13 +1,8 @@
 -- The row: sums over lists, what follows an entry, the last entry, and the slots that go in and out.
 use Rattle.std.proofs.Common.{◌≡◌, ◌≢◌, ◌⊎◌, ℕ, zero, suc, ◌+◌, ◌<◌, ◌≤◌, List, [], ◌∷◌, ◌++◌, set, refl, sym, ap, arith, ⊎_elim, ◌∙◌, ltb, Bool}
-use mathlib.Core.Option.{some, some-injective, some-ne-none}
-use lib.ListN.{get_elem?}
+use Rattle.futures_buffered_table.proofs.Common.{InHand, Role, Cleared, Polls, last_entry, next, same, times, total, some, some-injective, some-ne-none, get_elem?}
 use Rattle.std.proofs.lemmas.Bool.Decides.{nat_tests, Decides-ltb}
 use Rattle.std.specs.Prelude.{if◌then◌else◌}
-use Rattle.futures_buffered_table.specs.declared.view.Phase.TheVariants.{InHand}
-use Rattle.futures_buffered_table.specs.declared.view.Role.{Role}
-use Rattle.futures_buffered_table.specs.declared.view.Role.TheVariants.{Cleared, Polls}
-use Rattle.futures_buffered_table.specs.Row.{last_entry, next, same, times, total}
 use Rattle.futures_buffered_table.proofs.ListLemmas.{if_yes, if_no}
 
 pub total-append : {X : Type 0} (f : X → ℕ) (xs ys : List X) → total f (xs ++ ys) ≡ total f xs + total f ys

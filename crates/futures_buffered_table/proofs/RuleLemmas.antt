@@ -1,24 +1,13 @@
 -- The rule of the table: it holds of an empty list, tells what a step finds, and is kept by steps, splits and joins.
 use Rattle.std.proofs.Common.{◌≡◌, ◌≢◌, ℕ, suc, ◌+◌, ◌≤◌, List, [], ◌∷◌, ◌++◌, refl, sym, ap, ◌∙◌, subst, ⊎_elim, arith, ◌<◌, get_or, set, length}
 use Rattle.std.proofs.Math.Seq.{set-append_seam}
-use mathlib.Core.Option.{some, none}
-use lib.ListN.{get_elem?}
-use Rattle.futures_buffered_table.specs.declared.view.View.{View}
-use Rattle.futures_buffered_table.specs.declared.view.Phase.{Phase}
-use Rattle.futures_buffered_table.specs.declared.view.Phase.TheVariants.{Start, Moved, StubCleared, StubLinked}
-use Rattle.futures_buffered_table.specs.declared.view.Role.{Role}
-use Rattle.futures_buffered_table.specs.declared.view.Role.TheVariants.{Idle, Cleared, Polls}
-use Rattle.atomic_table.specs.Table.{State, Me, step as table_step, keeps, Allows, Arrives, Splits, Joins}
-use Rattle.futures_buffered_table.specs.declared.view.AtomicStep.{AtomicStep}
-use Rattle.atomic_table.proofs.Lists.{at_last, at_set, at_snoc, set_again}
-use Rattle.futures_buffered_table.specs.RowInvariant.{FitsRole, KeepsRow, outside, outside_by}
-use Rattle.futures_buffered_table.specs.View.{first_poller, new_waker_beside, spent_view, with_steps_of}
-use Rattle.futures_buffered_table.specs.Row.{next, owed, owed_by, same, times, total}
+use Rattle.futures_buffered_table.proofs.Common.{AtomicStep, Phase, Start, Moved, StubCleared, StubLinked, Role, Idle, Cleared, Polls, View, next, owed, owed_by, same, times, total, FitsRole, KeepsRow, outside, outside_by, empty_words, link, is_unmark, is_win, unmarks, wins, next_view, put_by_role, word_of_role, first_poller, new_waker_beside, spent_view, HoldsRow, MayFind, PlaysRole, Allows, Me, State, at_last, at_set, at_snoc, some, get_elem?}
+use mathlib.Core.Option.{none}
+use Rattle.atomic_table.specs.Table.{step as table_step, keeps, Arrives, Splits, Joins}
+use Rattle.atomic_table.proofs.Lists.{set_again}
+use Rattle.futures_buffered_table.specs.View.{with_steps_of}
 use Rattle.futures_buffered_table.proofs.RowLemmas.{next_first, same_cases, same_here, total-append, total_set}
-use Rattle.futures_buffered_table.specs.Tally.{is_unmark, is_win, unmarks, wins}
-use Rattle.futures_buffered_table.specs.Rule.{HoldsRow, MayFind, PlaysNewWaker, PlaysRole}
-use Rattle.futures_buffered_table.specs.Words.{link, empty_words}
-use Rattle.futures_buffered_table.specs.Effect.{next_view, put_by_role, word_of_role}
+use Rattle.futures_buffered_table.specs.Rule.{PlaysNewWaker}
 use Rattle.futures_buffered_table.proofs.EffectLemmas.{poll_keeps, wake_keeps}
 use Rattle.futures_buffered_table.proofs.RowInvariantLemmas.{keeps_first, tail_low}
 

@@ -2,36 +2,15 @@
 use Rattle.std.proofs.Common.{◌≡◌, ◌≢◌, ◌⊎◌, ℕ, zero, suc, ◌+◌, ◌<◌, List, [], ◌∷◌, ◌++◌, map, set, get_or, refl, sym, ap, ◌∙◌, subst, inl, inr, ⊎_elim, arith, append-nil, append_assoc}
 use Rattle.std.proofs.lemmas.Bool.Decides.{nat_tests}
 use Rattle.std.specs.Prelude.{◌==◌}
-use mathlib.Core.Option.{some, some-injective}
-use lib.ListN.{get_elem?}
-use Rattle.atomic_table.proofs.Lists.{at_set, set_else, set_here}
-use Rattle.futures_buffered_table.specs.declared.view.AtomicStep.{AtomicStep}
-use Rattle.futures_buffered_table.specs.declared.view.Phase.{Phase}
-use Rattle.futures_buffered_table.specs.declared.view.Phase.TheVariants.{Start, AtStub, Moved, NoNext, StubLinked}
-use Rattle.futures_buffered_table.specs.declared.view.Role.{Role}
-use Rattle.futures_buffered_table.specs.declared.view.Role.TheVariants.{Idle, Won, Cleared, Swapped, Polls}
-use Rattle.futures_buffered_table.specs.declared.view.View.{View}
-use Rattle.futures_buffered_table.specs.declared.answer.Taken.TheVariants.{Empty, Pause}
-use Rattle.futures_buffered_table.specs.declared.step.Step.{Step}
-use Rattle.futures_buffered_table.specs.declared.step.Step.TheVariants.{Mark, Go, Poll}
-use Rattle.futures_buffered_table.specs.declared.step.StepReply.{StepReply}
+use Rattle.futures_buffered_table.proofs.Common.{Empty, Pause, AtomicStep, Phase, Start, AtStub, Moved, NoNext, StubLinked, Role, Idle, Won, Cleared, Swapped, Polls, View, Step, Mark, Go, Poll, StepReply, WAKE_SEATS, owed_by, FitsRole, KeepsRow, link, tail, next_role, next_view, put_by_role, reply_of_role, word_of_role, role_of, spent_view, CanStep, seat_of, slot_of, Legal, Moment, after_step, at_start, found_at, replies_of, view_at, at_set, set_else, set_here, get_or-map, some, some-injective, get_elem?}
 use Rattle.futures_buffered_table.specs.declared.step.StepReply.TheVariants.{Taken}
 use Rattle.futures_buffered_table.specs.ScheduleLaw.{AfterEach, AnswersInOrder, EmptyIsTrue, IsUnderWay, PauseHasCause, Made, Wake, WakerStands, WakerStood, answered, put_in, put_in_by, slot_named, wake_after, wake_of}
 use Rattle.futures_buffered_table.proofs.ScheduleLemmas.{IsReachable, pending, reachable_start, step_reaches}
-use Rattle.futures_buffered_table.specs.Schedule.{Legal, Moment, after_step, at_start, found_at, replies_of, view_at}
-use Rattle.futures_buffered_table.specs.Words.{link, tail}
-use Rattle.futures_buffered_table.specs.Step.{CanStep, seat_of, slot_of}
 use Rattle.futures_buffered_table.proofs.EffectLemmas.{SomeWakerStands, row_ends_or_waker_stands}
-use Rattle.futures_buffered_table.specs.Effect.{next_role, next_view, put_by_role, reply_of_role, word_of_role}
 use Rattle.futures_buffered_table.proofs.RowLemmas.{alone, answered_by, in_hand, put_by, row_slots, slots_stub}
-use Rattle.futures_buffered_table.specs.RowInvariant.{FitsRole, KeepsRow}
 use Rattle.futures_buffered_table.proofs.WordsLemmas.{tail_kept}
-use Rattle.futures_buffered_table.specs.View.{role_of, spent_view}
-use Rattle.futures_buffered_table.specs.Row.{owed_by}
 use Rattle.futures_buffered_table.proofs.ListLemmas.{elem_at, place_low, if_yes, if_no}
-use Rattle.std.proofs.Math.ListN.{get_or-map}
 use Rattle.futures_buffered_table.proofs.ViewLemmas.{each_first}
-use Rattle.futures_buffered_table.specs.declared.step.TheConstants.{WAKE_SEATS}
 use Rattle.futures_buffered_table.proofs.RowInvariantLemmas.{head_low}
 
 -- what a seat's role says of the wake that is told of it

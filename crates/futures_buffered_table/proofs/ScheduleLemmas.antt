@@ -1,28 +1,11 @@
 -- Over a legal schedule the row keeps itself, and the slots come out in the order in which they were put in.
 use Rattle.std.proofs.Common.{◌≡◌, ◌≢◌, ℕ, ◌<◌, List, [], ◌∷◌, ◌++◌, length, map, set, get_or, refl, sym, ap, ◌∙◌, subst, arith, append-nil, append_assoc, length-set, ◌+◌}
-use mathlib.Core.Option.{some, some-injective}
-use lib.ListN.{get_elem?}
-use Rattle.atomic_table.proofs.Lists.{set_else, set_here}
-use Rattle.futures_buffered_table.specs.declared.view.AtomicStep.{AtomicStep}
-use Rattle.futures_buffered_table.specs.declared.view.Phase.{Phase}
-use Rattle.futures_buffered_table.specs.declared.view.Phase.TheVariants.{Start}
-use Rattle.futures_buffered_table.specs.declared.view.Role.{Role}
-use Rattle.futures_buffered_table.specs.declared.view.Role.TheVariants.{Idle, Polls}
-use Rattle.futures_buffered_table.specs.declared.view.View.{View}
-use Rattle.futures_buffered_table.specs.declared.step.Step.{Step}
-use Rattle.futures_buffered_table.specs.declared.step.Step.TheVariants.{Mark, Go, Poll}
-use Rattle.futures_buffered_table.specs.declared.step.StepReply.{StepReply}
-use Rattle.futures_buffered_table.specs.RowInvariant.{FitsRole, KeepsRow}
-use Rattle.futures_buffered_table.specs.Schedule.{Legal, Moment, after_step, at_start, found_at, replies_of, run, view_at, word_of}
+use Rattle.futures_buffered_table.proofs.Common.{AtomicStep, Phase, Start, Role, Idle, Polls, View, Step, Mark, Go, Poll, StepReply, WAKE_SEATS, FitsRole, KeepsRow, next_role, next_view, put_by_role, reply_of_role, step_of_role, word_of_role, first_poller, new_waker_beside, role_of, spent_view, CanStep, seat_of, slot_of, Legal, Moment, after_step, at_start, found_at, replies_of, run, view_at, set_else, set_here, get_or-map, some, some-injective, get_elem?}
+use Rattle.futures_buffered_table.specs.Schedule.{word_of}
 use Rattle.futures_buffered_table.proofs.RowLemmas.{Flows, answered_by, in_hand, put_by, row_slots}
-use Rattle.futures_buffered_table.specs.Effect.{next_role, next_view, put_by_role, reply_of_role, step_of_role, word_of_role}
 use Rattle.futures_buffered_table.proofs.ViewLemmas.{stubs_set, each_first}
-use Rattle.futures_buffered_table.specs.Step.{CanStep, seat_of, slot_of}
 use Rattle.futures_buffered_table.proofs.EffectLemmas.{poll_keeps, still_polls, wake_keeps}
-use Rattle.futures_buffered_table.specs.View.{first_poller, new_waker_beside, role_of, spent_view}
 use Rattle.futures_buffered_table.proofs.ListLemmas.{elem_at, place_low, length_and_last, last_at}
-use Rattle.std.proofs.Math.ListN.{get_or-map}
-use Rattle.futures_buffered_table.specs.declared.step.TheConstants.{WAKE_SEATS}
 use Rattle.futures_buffered_table.proofs.RowInvariantLemmas.{keeps_first}
 
 -- the seat 64 polls, at the head h

@@ -1,9 +1,6 @@
 -- A step that can be made names a seat and a slot that there are.
 use Rattle.std.proofs.Common.{◌≡◌, ℕ, ◌<◌, ◌≤◌, List, length, arith, ◌+◌}
-use Rattle.futures_buffered_table.specs.declared.view.Role.{Role}
-use Rattle.futures_buffered_table.specs.declared.step.Step.{Step}
-use Rattle.futures_buffered_table.specs.Step.{CanStep, seat_of, slot_of}
-use Rattle.futures_buffered_table.specs.declared.step.TheConstants.{WAKE_SEATS}
+use Rattle.futures_buffered_table.proofs.Common.{Role, Step, WAKE_SEATS, CanStep, seat_of, slot_of}
 
 pub seat_in : (n : ℕ) (roles : List Role) (s : Step) → CanStep n roles s → seat_of s < WAKE_SEATS + 1
 seat_in n roles s can = grind arith

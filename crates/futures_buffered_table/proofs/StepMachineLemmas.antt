@@ -1,31 +1,19 @@
 -- One step of the machine, by what its code reads and writes, and where it leads.
 use Rattle.std.proofs.Common.{◌≡◌, ℕ, ◌<◌, ◌≤◌, List, [], ◌∷◌, ◌++◌, length, map, set, get_or, sym, ap, ◌∙◌, subst, arith, ◌+◌, ◌^◌, length-set}
-use mathlib.Core.Option.{some}
-use lib.ListN.{get_elem?}
-use Rattle.futures_buffered_table.specs.declared.view.Role.{Role}
-use Rattle.futures_buffered_table.specs.declared.view.Role.TheVariants.{Idle}
-use Rattle.futures_buffered_table.specs.declared.view.View.{View}
-use Rattle.futures_buffered_table.specs.declared.step.Step.{Step}
-use Rattle.futures_buffered_table.specs.declared.step.StepReply.{StepReply}
-use Rattle.std.proofs.lemmas.List.{get_or_default, map-set}
+use Rattle.futures_buffered_table.proofs.Common.{Role, Idle, View, Step, StepReply, WAKE_SEATS, KeepsRow, InRange, next_role, next_view, put_by_role, reply_of_role, word_of_role, role_of, spent_view, CanStep, seat_of, slot_of, Legal, Moment, after_step, at_start, found_at, replies_of, run, view_at, get_or_default, get_or-map, some, get_elem?}
+use Rattle.std.proofs.lemmas.List.{map-set}
 use Rattle.std.proofs.Math.Logic.{∥∥₁_elim, ∥∥₁_prop}
 use Rattle.std.proofs.lemmas.Grind.{get_or_default_zero}
 use Rattle.futures_buffered_table.specs.StepMachine.{AreThoseOf, CanMake, IsLedTo, Leads, LeadsOn, Machine, MakesStep, replies_to, PlacesSlots}
-use Rattle.futures_buffered_table.specs.Schedule.{Legal, Moment, after_step, at_start, found_at, replies_of, run, view_at}
-use Rattle.futures_buffered_table.specs.Step.{CanStep, role_at, seat_of, slot_of}
+use Rattle.futures_buffered_table.specs.Step.{role_at}
 use Rattle.futures_buffered_table.proofs.ScheduleLemmas.{legal_more, reachable_at, replies_more, run_more}
-use Rattle.futures_buffered_table.specs.Effect.{InRange, next_role, next_view, put_by_role, reply_of_role, word_of_role}
-use Rattle.futures_buffered_table.specs.View.{role_of, spent_view}
 use Rattle.futures_buffered_table.proofs.StepLemmas.{seat_in, seat_low, slot_low}
 use Rattle.futures_buffered_table.proofs.RowInvariantLemmas.{head_low}
-use Rattle.futures_buffered_table.specs.RowInvariant.{KeepsRow}
 use Rattle.futures_buffered_table.proofs.TallyLemmas.{tallied_at}
 use Rattle.futures_buffered_table.proofs.WhereaboutsLemmas.{whereabouts}
 use Rattle.futures_buffered_table.specs.StepMachineInvariant.{KeepsMachine}
 use Rattle.futures_buffered_table.proofs.EffectLemmas.{in_range_prop, word_range, role_range}
 use Rattle.futures_buffered_table.proofs.ListLemmas.{elem_at}
-use Rattle.std.proofs.Math.ListN.{get_or-map}
-use Rattle.futures_buffered_table.specs.declared.step.TheConstants.{WAKE_SEATS}
 
 -- a schedule for n slots leads to these words and roles
 abbrev LeadsTo : ℕ → List Step → List ℕ → List Role → Type 0

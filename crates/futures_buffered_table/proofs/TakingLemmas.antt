@@ -1,10 +1,6 @@
 -- The poll seat after a taking.
 use Rattle.std.proofs.Common.{ℕ, ◌≤◌, arith}
-use Rattle.atomic_table.specs.declared.shared.Seat.{Seat}
-use Rattle.futures_buffered_table.specs.declared.view.Phase.TheVariants.{Start}
-use Rattle.futures_buffered_table.specs.declared.view.Role.TheVariants.{Polls}
-use Rattle.futures_buffered_table.specs.declared.view.View.{View}
-use Rattle.futures_buffered_table.specs.ReadyList.{IsInRole, ListIdentity}
+use Rattle.futures_buffered_table.proofs.Common.{Start, Polls, View, IsInRole, ListIdentity, Seat}
 use Rattle.futures_buffered_table.specs.ReadyListInvariant.{KeepsPoller, KeepsSeat}
 
 pub taken : (seen : ListIdentity) (now : Seat ℕ View) (head : ℕ) → IsInRole seen (Polls head Start) now →

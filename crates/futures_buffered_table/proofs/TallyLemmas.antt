@@ -1,27 +1,11 @@
 -- No mark is lost over a legal schedule: what the wake seats won is what the poll seat unmarked, and what is marked.
 use Rattle.std.proofs.Common.{◌≡◌, ℕ, zero, suc, ◌+◌, List, [], ◌∷◌, ◌++◌, length, get_or, refl, sym, ap, ◌∙◌, subst, arith, ◌<◌, take}
-use mathlib.Core.Option.{some, some-injective}
-use lib.ListN.{get_elem?}
-use Rattle.futures_buffered_table.specs.declared.view.AtomicStep.{AtomicStep}
-use Rattle.atomic_table.proofs.Lists.{set_else, set_here}
-use Rattle.futures_buffered_table.specs.declared.view.Phase.{Phase}
-use Rattle.futures_buffered_table.specs.declared.view.Role.{Role}
-use Rattle.futures_buffered_table.specs.declared.view.Role.TheVariants.{Polls}
-use Rattle.futures_buffered_table.specs.declared.view.View.{View}
-use Rattle.futures_buffered_table.specs.declared.step.Step.{Step}
-use Rattle.futures_buffered_table.specs.declared.step.Step.TheVariants.{Mark, Go, Poll}
-use Rattle.futures_buffered_table.specs.Tally.{LosesNoMark, is_unmark, is_win, unmarks, wins}
+use Rattle.futures_buffered_table.proofs.Common.{AtomicStep, Phase, Role, Polls, View, Step, Mark, Go, Poll, WAKE_SEATS, total, KeepsRow, is_unmark, is_win, unmarks, wins, next_view, step_of_role, spent_view, CanStep, seat_of, slot_of, Legal, Moment, after_step, at_start, found_at, run, view_at, set_else, set_here, some, some-injective, get_elem?}
+use Rattle.futures_buffered_table.specs.Tally.{LosesNoMark}
 use Rattle.futures_buffered_table.proofs.RowLemmas.{total-append, total_one}
-use Rattle.futures_buffered_table.specs.Schedule.{Legal, Moment, after_step, at_start, found_at, run, view_at}
-use Rattle.futures_buffered_table.specs.Effect.{next_view, step_of_role}
-use Rattle.futures_buffered_table.specs.Step.{CanStep, seat_of, slot_of}
 use Rattle.futures_buffered_table.proofs.ScheduleLemmas.{IsReachable, reachable_start, step_reaches}
-use Rattle.futures_buffered_table.specs.Row.{total}
-use Rattle.futures_buffered_table.specs.RowInvariant.{KeepsRow}
-use Rattle.futures_buffered_table.specs.View.{spent_view}
 use Rattle.futures_buffered_table.proofs.ListLemmas.{elem_at, place_low}
 use Rattle.futures_buffered_table.proofs.ViewLemmas.{each_first}
-use Rattle.futures_buffered_table.specs.declared.step.TheConstants.{WAKE_SEATS}
 
 pub unmarks-append : (e : ℕ) (a b : List AtomicStep) → unmarks e (a ++ b) ≡ unmarks e a + unmarks e b
 unmarks-append e a b = total-append (is_unmark e) a b

@@ -1,10 +1,6 @@
 -- Views of seats, by their places in a list.
 use Rattle.std.proofs.Common.{arith, ◌≡◌, ℕ, ◌<◌, List, set}
-use mathlib.Core.Option.{some}
-use lib.ListN.{get_elem?}
-use Rattle.atomic_table.proofs.Lists.{at_set}
-use Rattle.futures_buffered_table.specs.declared.view.View.{View}
-use Rattle.futures_buffered_table.specs.View.{new_waker_beside, first_poller, first_views}
+use Rattle.futures_buffered_table.proofs.Common.{View, first_poller, first_views, new_waker_beside, at_set, some, get_elem?}
 use Rattle.futures_buffered_table.proofs.ListLemmas.{earlier_or_last}
 
 pub stubs_set : (n : ℕ) (views : List View) (seat : ℕ) (w : View) → ((j : ℕ) (v : View) → get_elem? views j ≡ some v → v.stub ≡ n) →

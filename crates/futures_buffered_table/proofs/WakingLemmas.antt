@@ -1,19 +1,10 @@
 -- A wake seat after a wake.
 use Rattle.std.proofs.Common.{◌≡◌, ℕ, ◌≤◌, List, [], ◌∷◌, refl, ap, ◌∙◌, subst, arith, ◌≢◌}
-use Rattle.futures_buffered_table.specs.declared.view.AtomicStep.{AtomicStep}
-use Rattle.futures_buffered_table.specs.declared.answer.Woke.{Woke}
-use Rattle.futures_buffered_table.specs.declared.answer.Woke.TheVariants.{Fresh}
-use Rattle.atomic_table.specs.declared.shared.Seat.{Seat}
-use Rattle.futures_buffered_table.specs.declared.view.AtomicStep.TheVariants.{MarkSwap, LinkClear, TailSwap, LinkWrite}
-use Rattle.futures_buffered_table.specs.declared.view.Role.TheVariants.{Idle}
-use Rattle.futures_buffered_table.specs.declared.view.View.{View}
+use Rattle.futures_buffered_table.proofs.Common.{Woke, Fresh, AtomicStep, MarkSwap, LinkClear, TailSwap, LinkWrite, Idle, View, unmarks, next_role, AddsSteps, Seat}
 use Rattle.futures_buffered_table.specs.Waking.{IsWake}
-use Rattle.futures_buffered_table.specs.Tally.{unmarks}
-use Rattle.futures_buffered_table.specs.ReadyList.{AddsSteps}
 use Rattle.futures_buffered_table.proofs.ReadyListLemmas.{adds_more}
 use Rattle.futures_buffered_table.specs.ReadyListInvariant.{KeepsWaker, KeepsSeat}
 use Rattle.futures_buffered_table.proofs.TallyLemmas.{unmarks-append}
-use Rattle.futures_buffered_table.specs.Effect.{next_role}
 
 -- a wake unmarks nothing
 pub no_unmark : (e i : ℕ) (shape : List AtomicStep) (woke : Woke) → IsWake i shape woke → unmarks e shape ≡ 0

@@ -1,9 +1,7 @@
 -- Where each slot is, by the invariant of the row.
 use Rattle.std.proofs.Common.{◌≡◌, ℕ, ◌+◌, ◌<◌, List, [], ◌∷◌, refl, arith}
-use Rattle.futures_buffered_table.specs.declared.view.Role.{Role}
-use Rattle.futures_buffered_table.specs.declared.view.View.{View}
-use Rattle.futures_buffered_table.specs.RowInvariant.{FitsRole, KeepsRow, outside, outside_by}
-use Rattle.futures_buffered_table.specs.Whereabouts.{AgreesWith, Whereabouts, takers, takes_by, wakers, wakes_by}
+use Rattle.futures_buffered_table.proofs.Common.{Role, View, FitsRole, KeepsRow, outside, outside_by, Whereabouts}
+use Rattle.futures_buffered_table.specs.Whereabouts.{AgreesWith, takers, takes_by, wakers, wakes_by}
 
 out_is : (n e : ℕ) (role : Role) → e < n → outside_by n e role ≡ wakes_by e role + takes_by e role
 out_is n e role lt = grind arith

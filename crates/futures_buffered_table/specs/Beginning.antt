@@ -2,11 +2,7 @@
 -- wakes are in the list of a seat, and no seat makes their steps.
 use Rattle.std.specs.Prelude.{ℕ, zero, suc, ◌+◌, List, [], ◌∷◌, ◌++◌, slice_set, if◌then◌else◌}
 use Rattle.futures_buffered_table.specs.declared.rule.ListKey.{ListKey}
-use Rattle.futures_buffered_table.specs.declared.view.AtomicStep.{AtomicStep}
-use Rattle.futures_buffered_table.specs.declared.view.AtomicStep.TheVariants.{MarkSwap, LinkClear, TailSwap, LinkWrite}
-use Rattle.futures_buffered_table.specs.declared.view.Phase.TheVariants.{Start}
-use Rattle.futures_buffered_table.specs.declared.view.Role.TheVariants.{Polls}
-use Rattle.futures_buffered_table.specs.declared.view.View.{View}
+use Rattle.futures_buffered_table.specs.Types.{AtomicStep, MarkSwap, LinkClear, TailSwap, LinkWrite, Start, Polls, View}
 use Rattle.futures_buffered_table.specs.View.{first_poller}
 use Rattle.futures_buffered_table.specs.Words.{empty_words, tail_at}
 

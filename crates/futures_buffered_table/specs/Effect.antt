@@ -1,19 +1,11 @@
 -- What one atomic step of a seat does, over words and a view. It changes one word and the role of the seat, and returns
 -- a reply. The entries are the slots 0 to n - 1 and the stub, entry n. A link is 0 for none, or k + 1 for the entry k.
 use Rattle.std.specs.Prelude.{ℕ, zero, suc, ◌+◌, ◌≤◌, ◌==◌, [], ◌∷◌, ◌++◌, if◌then◌else◌}
-use Rattle.futures_buffered_table.specs.declared.answer.Woke.TheVariants.{Fresh, Already}
-use Rattle.futures_buffered_table.specs.declared.answer.Taken.TheVariants.{Slot, Empty, Pause}
-use Rattle.futures_buffered_table.specs.declared.view.AtomicStep.{AtomicStep}
-use Rattle.futures_buffered_table.specs.declared.view.AtomicStep.TheVariants.{MarkSwap, LinkClear, TailSwap, LinkWrite}
-use Rattle.futures_buffered_table.specs.declared.view.AtomicStep.TheVariants.{LinkRead, TailRead, Unmark}
-use Rattle.futures_buffered_table.specs.declared.view.Phase.{Phase}
-use Rattle.futures_buffered_table.specs.declared.view.Phase.TheVariants.{Start, AtStub, Moved, NoNext, Last}
-use Rattle.futures_buffered_table.specs.declared.view.Phase.TheVariants.{StubCleared, StubPut, StubLinked, InHand}
-use Rattle.futures_buffered_table.specs.declared.view.Role.{Role}
-use Rattle.futures_buffered_table.specs.declared.view.Role.TheVariants.{Idle, Won, Cleared, Swapped, Polls}
-use Rattle.futures_buffered_table.specs.declared.step.StepReply.{StepReply}
-use Rattle.futures_buffered_table.specs.declared.step.StepReply.TheVariants.{More, Woke, Taken}
-use Rattle.futures_buffered_table.specs.declared.view.View.{View}
+use Rattle.futures_buffered_table.specs.Types.{Fresh, Already, Slot, Empty, Pause, AtomicStep, MarkSwap, LinkClear}
+use Rattle.futures_buffered_table.specs.Types.{TailSwap, LinkWrite, LinkRead, TailRead, Unmark, Phase, Start, AtStub}
+use Rattle.futures_buffered_table.specs.Types.{Moved, NoNext, Last, StubCleared, StubPut, StubLinked, InHand, Role}
+use Rattle.futures_buffered_table.specs.Types.{Idle, Won, Cleared, Swapped, Polls, View, StepReply, More}
+use Rattle.futures_buffered_table.specs.declared.step.StepReply.TheVariants.{Woke, Taken}
 use Rattle.futures_buffered_table.specs.Words.{tail_at}
 
 -- the word that a step of a seat in this role changes; `slot` is the slot that an idle seat is to wake

@@ -4,9 +4,7 @@ use Rattle.std.specs.Prelude.{◌≡◌, ℕ, ◌+◌, ◌<◌, []}
 use mathlib.Core.Option.{some}
 use lib.ListN.{get_elem?}
 use Rattle.atomic_table.specs.Table.{State}
-use Rattle.futures_buffered_table.specs.declared.view.Phase.TheVariants.{AtStub}
-use Rattle.futures_buffered_table.specs.declared.view.Role.TheVariants.{Polls}
-use Rattle.futures_buffered_table.specs.declared.view.View.{View}
+use Rattle.futures_buffered_table.specs.Types.{AtStub, Polls, View}
 use Rattle.futures_buffered_table.specs.Rule.{HoldsRow}
 use Rattle.futures_buffered_table.specs.Whereabouts.{Whereabouts}
 use Rattle.futures_buffered_table.specs.Words.{mark, tail}

@@ -1,3 +1,4 @@
+pub mod Types
 pub mod Answer
 pub mod Words
 pub mod View

@@ -1,11 +1,8 @@
 -- A list and its seats, as callers see them, and a seat of the table in the middle of a call.
 use Rattle.std.specs.Prelude.{ℕ, List, [], ◌∷◌, ◌++◌, ◌≡◌}
 use Rattle.atomic_table.specs.Seated.{TableId}
-use Rattle.futures_buffered_table.specs.declared.view.AtomicStep.{AtomicStep}
-use Rattle.futures_buffered_table.specs.declared.view.AtomicStep.TheVariants.{LinkClear, TailSwap, LinkWrite}
+use Rattle.futures_buffered_table.specs.Types.{AtomicStep, LinkClear, TailSwap, LinkWrite, Role, View}
 use Rattle.atomic_table.specs.declared.shared.Seat.{Seat}
-use Rattle.futures_buffered_table.specs.declared.view.Role.{Role}
-use Rattle.futures_buffered_table.specs.declared.view.View.{View}
 
 -- which list it is, and how many slots it has
 pub record ListIdentity : Type 0 where

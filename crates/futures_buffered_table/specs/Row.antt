@@ -1,10 +1,7 @@
 -- The row of entries h ∷ rest, from the poller's head to the tail word. The next entry follows by a link, or by the
 -- view of a seat that is about to write that link.
 use Rattle.std.specs.Prelude.{◌≡◌, ◌⊎◌, ℕ, suc, ◌+◌, ◌<◌, ◌==◌, List, [], ◌∷◌, if◌then◌else◌}
-use Rattle.futures_buffered_table.specs.declared.view.Phase.TheVariants.{StubPut}
-use Rattle.futures_buffered_table.specs.declared.view.Role.{Role}
-use Rattle.futures_buffered_table.specs.declared.view.Role.TheVariants.{Swapped, Polls}
-use Rattle.futures_buffered_table.specs.declared.view.View.{View}
+use Rattle.futures_buffered_table.specs.Types.{StubPut, Role, Swapped, Polls, View}
 use Rattle.futures_buffered_table.specs.Words.{link}
 
 -- the sum of f over xs

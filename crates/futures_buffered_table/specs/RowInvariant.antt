@@ -3,12 +3,8 @@
 use Rattle.std.specs.Prelude.{◌≡◌, ◌≢◌, ℕ, suc, ◌+◌, ◌<◌, ◌≤◌, List, ◌∷◌, length}
 use mathlib.Core.Option.{some}
 use lib.ListN.{get_elem?}
-use Rattle.futures_buffered_table.specs.declared.view.Phase.{Phase}
-use Rattle.futures_buffered_table.specs.declared.view.Phase.TheVariants.{Start, AtStub, Moved, NoNext, Last}
-use Rattle.futures_buffered_table.specs.declared.view.Phase.TheVariants.{StubCleared, StubPut, StubLinked, InHand}
-use Rattle.futures_buffered_table.specs.declared.view.Role.{Role}
-use Rattle.futures_buffered_table.specs.declared.view.Role.TheVariants.{Idle, Won, Cleared, Swapped, Polls}
-use Rattle.futures_buffered_table.specs.declared.view.View.{View}
+use Rattle.futures_buffered_table.specs.Types.{Phase, Start, AtStub, Moved, NoNext, Last, StubCleared, StubPut}
+use Rattle.futures_buffered_table.specs.Types.{StubLinked, InHand, Role, Idle, Won, Cleared, Swapped, Polls, View}
 use Rattle.futures_buffered_table.specs.Row.{IsLinked, last_entry, next, owed, same, times, total}
 use Rattle.futures_buffered_table.specs.Words.{link, mark, tail}
 use Rattle.futures_buffered_table.specs.Tally.{unmarks, wins}

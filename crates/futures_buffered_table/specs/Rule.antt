@@ -2,10 +2,7 @@
 -- something to the seat that makes it (`PlaysRole`) or that is made with it (`PlaysNewWaker`).
 use Rattle.std.specs.Prelude.{◌≡◌, ℕ, suc, ◌≤◌, List, []}
 use Rattle.atomic_table.specs.Table.{State, Me, Step as TableStep}
-use Rattle.futures_buffered_table.specs.declared.view.Phase.TheVariants.{Start, Moved, StubCleared, StubLinked}
-use Rattle.futures_buffered_table.specs.declared.view.Role.{Role}
-use Rattle.futures_buffered_table.specs.declared.view.Role.TheVariants.{Idle, Cleared, Polls}
-use Rattle.futures_buffered_table.specs.declared.view.View.{View}
+use Rattle.futures_buffered_table.specs.Types.{Start, Moved, StubCleared, StubLinked, Role, Idle, Cleared, Polls, View}
 use Rattle.futures_buffered_table.specs.RowInvariant.{KeepsRow}
 use Rattle.futures_buffered_table.specs.Effect.{next_view}
 use Rattle.futures_buffered_table.specs.View.{new_waker_beside}

@@ -3,10 +3,7 @@
 use Rattle.std.specs.Prelude.{◌≡◌, ℕ, List, [], ◌∷◌, map, slice_index, slice_index_or, slice_set, take}
 use mathlib.Core.Option.{some}
 use lib.ListN.{get_elem?}
-use Rattle.futures_buffered_table.specs.declared.step.Step.{Step}
-use Rattle.futures_buffered_table.specs.declared.step.StepReply.{StepReply}
-use Rattle.futures_buffered_table.specs.declared.view.View.{View}
-use Rattle.futures_buffered_table.specs.declared.step.TheConstants.{WAKE_SEATS}
+use Rattle.futures_buffered_table.specs.Types.{View, Step, StepReply, WAKE_SEATS}
 use Rattle.futures_buffered_table.specs.View.{role_of, spent_view, first_views}
 use Rattle.futures_buffered_table.specs.Step.{CanStep, seat_of, slot_of}
 use Rattle.futures_buffered_table.specs.Effect.{next_view, put_by_role, reply_of_role, word_of_role}

@@ -1,12 +1,8 @@
 -- What holds of every schedule, by its steps and their replies alone: in which order slots are dequeued, and what Empty
 -- and Pause say. No fact here uses a word, a link or a view.
 use Rattle.std.specs.Prelude.{◌≡◌, ◌⊎◌, ℕ, suc, ◌<◌, ◌==◌, if◌then◌else◌, List, [], ◌∷◌, ◌++◌}
-use Rattle.futures_buffered_table.specs.declared.answer.Taken.TheVariants.{Slot, Empty, Pause}
-use Rattle.futures_buffered_table.specs.declared.step.Step.{Step}
-use Rattle.futures_buffered_table.specs.declared.step.Step.TheVariants.{Mark, Go, Poll}
-use Rattle.futures_buffered_table.specs.declared.step.StepReply.{StepReply}
-use Rattle.futures_buffered_table.specs.declared.step.StepReply.TheVariants.{More, Taken}
-use Rattle.futures_buffered_table.specs.declared.step.TheConstants.{WAKE_SEATS}
+use Rattle.futures_buffered_table.specs.Types.{Slot, Empty, Pause, Step, Mark, Go, Poll, StepReply, More, WAKE_SEATS}
+use Rattle.futures_buffered_table.specs.declared.step.StepReply.TheVariants.{Taken}
 use Rattle.futures_buffered_table.specs.Step.{seat_of}
 
 -- a step that was made, with its reply; a history has the newest first

@@ -1,8 +1,6 @@
 -- The machine of single steps as its caller sees it, and how it follows a schedule.
 use Rattle.std.specs.Prelude.{◌≡◌, ℕ, List, [], ◌∷◌, ◌++◌, map, slice_index, slice_set}
-use Rattle.futures_buffered_table.specs.declared.view.Role.{Role}
-use Rattle.futures_buffered_table.specs.declared.step.Step.{Step}
-use Rattle.futures_buffered_table.specs.declared.step.StepReply.{StepReply}
+use Rattle.futures_buffered_table.specs.Types.{Role, Step, StepReply}
 use Rattle.futures_buffered_table.specs.Schedule.{Legal, Moment, at_start, replies_of, run}
 use Rattle.futures_buffered_table.specs.View.{role_of}
 use Rattle.futures_buffered_table.specs.Step.{CanStep, role_at, seat_of, slot_of}

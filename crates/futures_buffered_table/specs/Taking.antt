@@ -1,15 +1,9 @@
 -- The shapes of a dequeue: which steps it makes, with what was found, for each result. There is no other shape. In
 -- each, `h` is the poller's head before these steps, and `head` its head after them.
 use Rattle.std.specs.Prelude.{◌≡◌, ◌≢◌, ◌<◌, ◌≤◌, ◌⊎◌, ℕ, suc, List, [], ◌∷◌, ◌++◌}
-use Rattle.futures_buffered_table.specs.declared.answer.Taken.{Taken}
-use Rattle.futures_buffered_table.specs.declared.answer.Taken.TheVariants.{Slot, Empty, Pause}
-use Rattle.futures_buffered_table.specs.declared.view.AtomicStep.{AtomicStep}
-use Rattle.futures_buffered_table.specs.declared.view.AtomicStep.TheVariants.{LinkClear, TailSwap, LinkWrite, LinkRead}
-use Rattle.futures_buffered_table.specs.declared.view.AtomicStep.TheVariants.{TailRead, Unmark}
+use Rattle.futures_buffered_table.specs.Types.{Taken, Slot, Empty, Pause, AtomicStep, LinkClear, TailSwap, LinkWrite}
+use Rattle.futures_buffered_table.specs.Types.{LinkRead, TailRead, Unmark, Start, Moved, StubLinked, Polls, View}
 use Rattle.atomic_table.specs.declared.shared.Seat.{Seat}
-use Rattle.futures_buffered_table.specs.declared.view.Phase.TheVariants.{Moved, Start, StubLinked}
-use Rattle.futures_buffered_table.specs.declared.view.Role.TheVariants.{Polls}
-use Rattle.futures_buffered_table.specs.declared.view.View.{View}
 use Rattle.futures_buffered_table.specs.ReadyList.{AddsSteps, IsInRole, ListIdentity}
 
 -- the seat is to read the link of its head, a slot: the head moved there from the stub, or the stub is after it now

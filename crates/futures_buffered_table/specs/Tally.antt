@@ -1,9 +1,6 @@
 -- How often a slot was won, and how often unmarked, by the lists of steps.
 use Rattle.std.specs.Prelude.{◌≡◌, ℕ, zero, ◌+◌, ◌<◌, List, slice_index_or, take}
-use Rattle.futures_buffered_table.specs.declared.view.AtomicStep.{AtomicStep}
-use Rattle.futures_buffered_table.specs.declared.view.AtomicStep.TheVariants.{MarkSwap, Unmark}
-use Rattle.futures_buffered_table.specs.declared.view.View.{View}
-use Rattle.futures_buffered_table.specs.declared.step.TheConstants.{WAKE_SEATS}
+use Rattle.futures_buffered_table.specs.Types.{AtomicStep, MarkSwap, Unmark, View, WAKE_SEATS}
 use Rattle.futures_buffered_table.specs.Row.{same, total}
 use Rattle.futures_buffered_table.specs.Words.{mark}
 use Rattle.futures_buffered_table.specs.View.{spent_view}

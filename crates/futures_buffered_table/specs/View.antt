@@ -1,9 +1,6 @@
 -- The views of seats: as they begin, are split, and go into another.
 use Rattle.std.specs.Prelude.{ℕ, List, [], ◌∷◌, ◌++◌, replicate}
-use Rattle.futures_buffered_table.specs.declared.view.Phase.TheVariants.{Start}
-use Rattle.futures_buffered_table.specs.declared.view.Role.{Role}
-use Rattle.futures_buffered_table.specs.declared.view.Role.TheVariants.{Idle, Polls}
-use Rattle.futures_buffered_table.specs.declared.view.View.{View}
+use Rattle.futures_buffered_table.specs.Types.{Start, Role, Idle, Polls, View}
 
 -- what a seat is about to do
 abbrev pub role_of : View → Role

@@ -1,9 +1,7 @@
 -- The shapes of a wake: which steps it makes, with what was found, for each result. There is no other shape.
 use Rattle.std.specs.Prelude.{◌≡◌, ℕ, List, [], ◌∷◌}
-use Rattle.futures_buffered_table.specs.declared.answer.Woke.{Woke}
-use Rattle.futures_buffered_table.specs.declared.answer.Woke.TheVariants.{Fresh, Already}
-use Rattle.futures_buffered_table.specs.declared.view.AtomicStep.{AtomicStep}
-use Rattle.futures_buffered_table.specs.declared.view.AtomicStep.TheVariants.{MarkSwap, LinkClear, TailSwap, LinkWrite}
+use Rattle.futures_buffered_table.specs.Types.{Woke, Fresh, Already, AtomicStep, MarkSwap, LinkClear, TailSwap}
+use Rattle.futures_buffered_table.specs.Types.{LinkWrite}
 
 -- a wake of the slot `i`: one step if its mark was set, four if it was clear
 abbrev pub IsWake : ℕ → List AtomicStep → Woke → Type 0

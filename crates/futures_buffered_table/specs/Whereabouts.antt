@@ -3,10 +3,7 @@
 use Rattle.std.specs.Prelude.{◌≡◌, ℕ, suc, ◌+◌, ◌<◌, ◌≤◌, List, ◌∷◌}
 use mathlib.Core.Option.{some}
 use lib.ListN.{get_elem?}
-use Rattle.futures_buffered_table.specs.declared.view.Phase.TheVariants.{StubPut, InHand}
-use Rattle.futures_buffered_table.specs.declared.view.Role.{Role}
-use Rattle.futures_buffered_table.specs.declared.view.Role.TheVariants.{Won, Cleared, Swapped, Polls}
-use Rattle.futures_buffered_table.specs.declared.view.View.{View}
+use Rattle.futures_buffered_table.specs.Types.{StubPut, InHand, Role, Won, Cleared, Swapped, Polls, View}
 use Rattle.futures_buffered_table.specs.Row.{IsLinked, last_entry, next, owed, same, times, total}
 use Rattle.futures_buffered_table.specs.Words.{link, mark, tail}
 

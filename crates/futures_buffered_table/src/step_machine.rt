@@ -2,8 +2,7 @@
 //! seat, as plain data.
 ghost use Rattle.std.specs.Prelude.{◌≡◌, ◌<◌, ◌++◌, ◌∷◌, [], ◌+◌, length, replicate, MatchOption, IfOk, IfNone, IfSome};
 ghost use Rattle.futures_buffered_table.specs.Step.{CanStep, seat_of, slot_of};
-ghost use Rattle.futures_buffered_table.specs.declared.view.Role.TheVariants.{Idle, Polls};
-ghost use Rattle.futures_buffered_table.specs.declared.view.Phase.TheVariants.{Start};
+ghost use Rattle.futures_buffered_table.specs.Types.{Start, Idle, Polls};
 
 use crate::answer::{MAX_CAPACITY, NewFault};
 use crate::effect::{puts, reply, role_after, touches};

@@ -1,17 +1,8 @@
 //! A dequeue: the steps of the poll seat, from its head.
 ghost use Rattle.std.specs.Prelude.{◌≡◌, ◌≢◌, ℕ, ◌+◌, ◌<◌, ◌≤◌, List, [], ◌∷◌, ◌++◌};
-ghost use Rattle.futures_buffered_table.specs.declared.answer.Taken.TheVariants.{Empty, Pause, Slot};
-ghost use Rattle.futures_buffered_table.specs.declared.view.AtomicStep.{AtomicStep};
-ghost use Rattle.futures_buffered_table.specs.declared.view.AtomicStep.TheVariants.{LinkClear, TailSwap};
-ghost use Rattle.futures_buffered_table.specs.declared.view.AtomicStep.TheVariants.{LinkWrite};
-ghost use Rattle.futures_buffered_table.specs.declared.view.AtomicStep.TheVariants.{LinkRead, TailRead};
-ghost use Rattle.futures_buffered_table.specs.declared.view.AtomicStep.TheVariants.{Unmark};
-ghost use Rattle.futures_buffered_table.specs.declared.view.Phase.TheVariants.{Start, AtStub, Moved, NoNext};
-ghost use Rattle.futures_buffered_table.specs.declared.view.Phase.TheVariants.{Last};
-ghost use Rattle.futures_buffered_table.specs.declared.view.Phase.TheVariants.{StubCleared, StubPut};
-ghost use Rattle.futures_buffered_table.specs.declared.view.Phase.TheVariants.{StubLinked};
-ghost use Rattle.futures_buffered_table.specs.declared.view.Phase.TheVariants.{InHand};
-ghost use Rattle.futures_buffered_table.specs.declared.view.Role.TheVariants.{Polls};
+ghost use Rattle.futures_buffered_table.specs.Types.{Slot, Empty, Pause, AtomicStep, LinkClear, TailSwap, LinkWrite};
+ghost use Rattle.futures_buffered_table.specs.Types.{LinkRead, TailRead, Unmark, Start, AtStub, Moved, NoNext, Last};
+ghost use Rattle.futures_buffered_table.specs.Types.{StubCleared, StubPut, StubLinked, InHand, Polls};
 ghost use Rattle.futures_buffered_table.specs.Effect.{next_role};
 ghost use Rattle.futures_buffered_table.specs.Taking.{CallsAtStub, CallsFrom, IsTaking, ReadsSlot};
 ghost use Rattle.futures_buffered_table.specs.Taking.{TakesAtLast, TakesAtSlot};

@@ -1,9 +1,7 @@
 //! A wake: the steps of a wake seat.
 ghost use Rattle.std.specs.Prelude.{◌≡◌, ℕ, ◌<◌, ◌≤◌, List, [], ◌∷◌, ◌++◌};
-ghost use Rattle.futures_buffered_table.specs.declared.view.AtomicStep.{AtomicStep};
-ghost use Rattle.futures_buffered_table.specs.declared.view.AtomicStep.TheVariants.{MarkSwap, LinkClear, TailSwap};
-ghost use Rattle.futures_buffered_table.specs.declared.view.AtomicStep.TheVariants.{LinkWrite};
-ghost use Rattle.futures_buffered_table.specs.declared.view.Role.TheVariants.{Idle, Won, Cleared, Swapped};
+ghost use Rattle.futures_buffered_table.specs.Types.{AtomicStep, MarkSwap, LinkClear, TailSwap, LinkWrite, Idle, Won};
+ghost use Rattle.futures_buffered_table.specs.Types.{Cleared, Swapped};
 ghost use Rattle.futures_buffered_table.specs.Effect.{next_role};
 ghost use Rattle.futures_buffered_table.specs.Waking.{IsWake};
 

@@ -1,6 +1,5 @@
 use Rattle.std.proofs.Common.{sym, ap, ◌∙◌, arith}
-use Rattle.futures_buffered_table.specs.ReadyList.{ListIdentity, Poller, Waker}
-use Rattle.futures_buffered_table.specs.Tally.{unmarks}
+use Rattle.futures_buffered_table.proofs.Common.{unmarks, ListIdentity, Poller, Waker}
 use Rattle.futures_buffered_table.proofs.RuleLemmas.{joins}
 use Rattle.futures_buffered_table.proofs.TallyLemmas.{unmarks-append}
 use Rattle.futures_buffered_table.proofs.ready_list.PollSeat.join.Goals as goal

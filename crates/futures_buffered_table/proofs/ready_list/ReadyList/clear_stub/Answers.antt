@@ -1,6 +1,5 @@
 use Rattle.std.proofs.Common.{refl, arith}
-use Rattle.futures_buffered_table.specs.declared.view.Phase.TheVariants.{Last}
-use Rattle.futures_buffered_table.specs.declared.view.Role.TheVariants.{Polls}
+use Rattle.futures_buffered_table.proofs.Common.{Last, Polls}
 use Rattle.futures_buffered_table.proofs.ReadyListLemmas.{may_store}
 use Rattle.futures_buffered_table.proofs.ready_list.ReadyList.clear_stub.Goals as goal
 

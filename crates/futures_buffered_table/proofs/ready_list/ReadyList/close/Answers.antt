@@ -1,6 +1,5 @@
 use Rattle.std.proofs.Common.{◌≡◌, ◌++◌, [], All, refl, sym, ap, ◌∙◌, subst}
-use Rattle.futures_buffered_table.specs.Words.{mark}
-use Rattle.futures_buffered_table.specs.ReadyList.{Waker}
+use Rattle.futures_buffered_table.proofs.Common.{mark, Waker}
 use Rattle.futures_buffered_table.specs.Closing.{steps_of}
 use Rattle.futures_buffered_table.proofs.ClosingLemmas.{joined_on, joined_all, handed_in}
 use Rattle.futures_buffered_table.proofs.ready_list.ReadyList.close.Goals as goal

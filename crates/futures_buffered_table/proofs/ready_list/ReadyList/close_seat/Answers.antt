@@ -1,11 +1,6 @@
 use Rattle.std.proofs.Common.{◌≡◌, ◌<◌, ◌≤◌, ◌+◌, List, ℕ, ap, sym, ◌∙◌, subst}
 use Rattle.std.specs.Mem.Slots.{slots_items}
-use Rattle.futures_buffered_table.specs.declared.view.AtomicStep.{AtomicStep}
-use Rattle.futures_buffered_table.specs.declared.view.View.{View}
-use Rattle.futures_buffered_table.specs.Words.{mark}
-use Rattle.futures_buffered_table.specs.ReadyList.{ListIdentity, Poller}
-use Rattle.futures_buffered_table.specs.Tally.{wins, unmarks}
-use Rattle.futures_buffered_table.specs.Whereabouts.{Whereabouts}
+use Rattle.futures_buffered_table.proofs.Common.{AtomicStep, View, mark, unmarks, wins, Whereabouts, ListIdentity, Poller}
 use Rattle.futures_buffered_table.proofs.ClosingLemmas.{ends, ends_placed}
 use Rattle.futures_buffered_table.proofs.ready_list.ReadyList.close_seat.Goals as goal
 

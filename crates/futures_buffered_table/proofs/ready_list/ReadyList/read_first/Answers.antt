@@ -1,6 +1,5 @@
 use Rattle.std.proofs.Common.{refl, arith}
-use Rattle.futures_buffered_table.specs.declared.view.Phase.TheVariants.{Start}
-use Rattle.futures_buffered_table.specs.declared.view.Role.TheVariants.{Polls}
+use Rattle.futures_buffered_table.proofs.Common.{Start, Polls}
 use Rattle.futures_buffered_table.proofs.ReadyListLemmas.{may_step}
 use Rattle.futures_buffered_table.proofs.ready_list.ReadyList.read_first.Goals as goal
 

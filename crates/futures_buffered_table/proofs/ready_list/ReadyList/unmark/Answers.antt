@@ -1,6 +1,5 @@
 use Rattle.std.proofs.Common.{refl, arith}
-use Rattle.futures_buffered_table.specs.declared.view.Phase.TheVariants.{InHand}
-use Rattle.futures_buffered_table.specs.declared.view.Role.TheVariants.{Polls}
+use Rattle.futures_buffered_table.proofs.Common.{InHand, Polls}
 use Rattle.futures_buffered_table.proofs.ReadyListLemmas.{may_store}
 use Rattle.futures_buffered_table.proofs.ready_list.ReadyList.unmark.Goals as goal
 

@@ -1,8 +1,5 @@
 use Rattle.std.proofs.Common.{ℕ, [], ◌∷◌, ◌++◌, refl, ap, ◌∙◌, subst}
-use Rattle.futures_buffered_table.specs.declared.answer.Woke.TheVariants.{Fresh, Already}
-use Rattle.futures_buffered_table.specs.declared.view.AtomicStep.TheVariants.{MarkSwap}
-use Rattle.futures_buffered_table.specs.declared.view.Role.{Role}
-use Rattle.futures_buffered_table.specs.ReadyList.{Waker, IsInRole, AddsSteps}
+use Rattle.futures_buffered_table.proofs.Common.{Fresh, Already, MarkSwap, Role, AddsSteps, IsInRole, Waker}
 use Rattle.futures_buffered_table.proofs.ReadyListLemmas.{in_role, seat_kept}
 use Rattle.futures_buffered_table.proofs.WakingLemmas.{adds_fresh, woken, still_idle, one_found}
 use Rattle.futures_buffered_table.proofs.ready_list.ReadyList.wake.Goals as goal
