@@ -7,9 +7,9 @@ use Rattle.futures_buffered_table.specs.declared.rule.ListKey.{ListKey}
 use Rattle.futures_buffered_table.specs.Beginning.{all_wakes, entry_before, first_view, full_words, steps_at_first, wake_in_order, wakes_in_order, words_at_first, words_in_order}
 use Rattle.futures_buffered_table.specs.ReadyListInvariant.{KeepsPoller, KeepsWaker}
 use Rattle.futures_buffered_table.specs.View.{waker_with_steps_of, without_steps}
-use Rattle.futures_buffered_table.proofs.EffectLemmas.{wake_keeps}
+use Rattle.futures_buffered_table.proofs.EffectLemmas.{IsPolls, wake_keeps}
 use Rattle.futures_buffered_table.proofs.RowLemmas.{total-append, total_set}
-use Rattle.futures_buffered_table.proofs.RuleLemmas.{begins_at, grows, same_sums}
+use Rattle.futures_buffered_table.proofs.RuleLemmas.{SeatFits, begins_at, grows, same_sums}
 use Rattle.futures_buffered_table.proofs.TallyLemmas.{unmarks-append}
 use Rattle.futures_buffered_table.proofs.WordsLemmas.{empty_tail, empty_wide, empty_word}
 
@@ -60,13 +60,12 @@ HoldsBy n role words steps =
 
 -- that seat makes a step of a wake of slot k
 makes : (n k : ℕ) (role : Role) (words : List ℕ) (steps : List AtomicStep) → (role ≡ Idle → k < n) →
-    ((head : ℕ) (phase : Phase) → role ≢ Polls head phase) → HoldsBy n role words steps →
+    (IsPolls role → ⊥) → HoldsBy n role words steps →
     (found : ℕ) → found ≡ get_or words (word_of_role n k role) 0 →
     HoldsBy n (next_role n k role found) (set words (word_of_role n k role) (put_by_role n role found))
     (steps ++ step_of_role n k role found ∷ [])
 makes n k role words steps lt wakes held found is =
-    let now = wake_keeps n held.0 held.1 held.2 words (first_poller n ∷ record { stub = n; role = role; steps = steps } ∷ []) held.3 1 steps k
-    role lt wakes refl found is in (now.0, now.1, held.2, now.2)
+    let now = wake_keeps held.3 1 steps k role lt wakes refl found is in (now.0, now.1, held.2, now.2)
 
 -- that seat wakes slot k
 wakes_one : (n k : ℕ) → k < n → HoldsBy n Idle (words_in_order n k) (wakes_in_order n k) →
@@ -77,14 +76,14 @@ wakes_one n k lt held =
     let marked : List ℕ = set words k 1 in
     let no_link : get_or marked (n + k) 0 ≡ 0 = get_or-set_other words k (n + k) 1 0 (λ z. omega arith) ∙ clear.1 in
     let last : get_or marked (tail_at n) 0 ≡ p = get_or-set_other words k (tail_at n) 1 0 (λ z. omega arith) ∙ tail_in_order n k (omega arith) in
-    let won = makes n k Idle words steps (λ _. lt) (λ _ _ e. cc) held 0 (sym clear.0) in
-    let cleared = makes n k (Won k) marked (steps ++ MarkSwap k 0 ∷ []) (λ e. absurd cc) (λ _ _ e. cc) won _ refl in
+    let won = makes n k Idle words steps (λ _. lt) (λ z. z) held 0 (sym clear.0) in
+    let cleared = makes n k (Won k) marked (steps ++ MarkSwap k 0 ∷ []) (λ e. absurd cc) (λ z. z) won _ refl in
     let same : set marked (n + k) 0 ≡ marked = subst (λ (x : ℕ). set marked (n + k) x ≡ marked) no_link (set-get_or marked (n + k) 0) in
     let unlinked = subst (λ (ws : List ℕ). HoldsBy n (Cleared k) ws ((steps ++ MarkSwap k 0 ∷ []) ++ LinkClear k ∷ [])) same cleared in
-    let swapped = makes n k (Cleared k) marked ((steps ++ MarkSwap k 0 ∷ []) ++ LinkClear k ∷ []) (λ e. absurd cc) (λ _ _ e. cc) unlinked p
+    let swapped = makes n k (Cleared k) marked ((steps ++ MarkSwap k 0 ∷ []) ++ LinkClear k ∷ []) (λ e. absurd cc) (λ z. z) unlinked p
     (sym last) in
     let linked = makes n k (Swapped k p) (set marked (tail_at n) k) (((steps ++ MarkSwap k 0 ∷ []) ++ LinkClear k ∷ []) ++ TailSwap k p ∷ [])
-    (λ e. absurd cc) (λ _ _ e. cc) swapped _ refl in
+    (λ e. absurd cc) (λ z. z) swapped _ refl in
     subst (HoldsBy n Idle (words_in_order n (suc k)))
     (four_more steps (MarkSwap k 0) (LinkClear k) (TailSwap k p) (LinkWrite p k)) linked
 
@@ -98,11 +97,7 @@ wakes_unmark_none n zero e = refl
 wakes_unmark_none n (suc k) e = unmarks-append e (wakes_in_order n k) (wake_in_order n k) ∙ (let a = wakes_unmark_none n k e in omega arith)
 
 pub first_unmarks_none : (key : ListKey) (e : ℕ) → unmarks e (steps_at_first key) ≡ 0
-first_unmarks_none key e = by_full key.full
-  where
-    by_full : (full : Bool) → unmarks e (steps_at_first record { capacity = key.capacity; full = full }) ≡ 0
-    by_full true = wakes_unmark_none key.capacity key.capacity e
-    by_full false = refl
+first_unmarks_none key e = grind (arith, wakes_unmark_none key.capacity key.capacity e)
 
 only_at : {X : Type 0} (P : ℕ → X → Type 0) (v : X) → P 0 v → (j : ℕ) (u : X) → get_elem? (v ∷ []) j ≡ some u → P j u
 only_at P v here zero u e = subst (P 0) (some-injective v u e) here
@@ -114,12 +109,13 @@ full_begins n =
     let held = wakes_all n n (omega arith) in
     let v : View = first_view record { capacity = n; full = true } in
     let w : View = record { stub = n; role = Idle; steps = all_wakes n } in
-    let R = held.3 in
-    let now = same_sums n held.0 held.1 held.2 (full_words n) (first_poller n ∷ w ∷ []) (v ∷ []) R (λ e. refl) (λ p. refl) (λ e. omega arith)
-    (λ e. omega arith)
-    (only_at (λ j u. FitsRole n (full_words n) held.0 held.1 held.2 j u.role × (j ≢ held.2 → (e : ℕ) → unmarks e u.steps ≡ 0)) v
-    ((R.seats 0 (first_poller n) refl).0, λ _ e. wakes_unmark_none n n e)) in
-    (held.0, held.1, held.2, now)
+    let R = held.3 in (
+      held.0,
+      held.1,
+      held.2,
+      same_sums R (v ∷ []) (λ e. refl) (λ p. refl) (λ e. omega arith) (λ e. omega arith)
+          (only_at (SeatFits n (full_words n) held.0 held.1 held.2) v ((R.seats 0 (first_poller n) refl).0, λ _ e. wakes_unmark_none n n e)),
+    )
 
 pub begins : (key : ListKey) (words : List ℕ) → words ≡ words_at_first key →
     HoldsRow key.capacity record { words = words; homes = []; views = first_view key ∷ [] }
@@ -131,11 +127,7 @@ begins key words is = subst (λ (ws : List ℕ). HoldsRow key.capacity record { 
     by_full false = begins_at key.capacity (empty_words key.capacity) refl
 
 pub first_wide : (key : ListKey) → length (words_at_first key) ≡ key.capacity + key.capacity + 2
-first_wide key = by_full key.full
-  where
-    by_full : (full : Bool) → length (words_at_first record { capacity = key.capacity; full = full }) ≡ key.capacity + key.capacity + 2
-    by_full true = wide_in_order key.capacity key.capacity
-    by_full false = empty_wide key.capacity
+first_wide key = grind (arith, wide_in_order key.capacity key.capacity, empty_wide key.capacity)
 
 -- a new wake seat takes the steps of a seat that unmarked nothing
 pub hands_on : (n id : ℕ) (v : View) → ((e : ℕ) → unmarks e v.steps ≡ 0) → Splits (HoldsRow n) id v (without_steps v) (waker_with_steps_of v)
@@ -145,17 +137,16 @@ hands_on n id v none s held at =
     let one : List View = set s.views id left in
     let sums : (f : View → ℕ) → f left + f right ≡ f v → total f (one ++ right ∷ []) ≡ total f s.views = λ f a.
     let x = total_set f s.views id v left at in let y = total-append f one (right ∷ []) in omega arith in
-    let now = same_sums n held.0 held.1 held.2 s.words s.views (one ++ right ∷ []) R
+    let now = same_sums R (one ++ right ∷ [])
     (λ e. sums (λ u. outside_by n e u.role) (omega arith)) (λ p. sums (λ u. owed_by p u.role) (omega arith))
     (λ e. sums (λ u. wins e u.steps) (omega arith)) (λ e. sums (λ u. unmarks e u.steps) (omega arith))
     (λ j u e. ⊎_elim
     (λ (t : get_elem? one j ≡ some u). ⊎_elim
-    (λ (r : (j ≡ id) × (left ≡ u)). subst (λ (y : ℕ × View). FitsRole n s.words held.0 held.1 held.2 y.0 y.1.role
-    × (y.0 ≢ held.2 → (x : ℕ) → unmarks x y.1.steps ≡ 0)) (λ k. (sym r.0 k, r.1 k)) ((R.seats id v at).0, λ _ x. refl))
+    (λ (r : (j ≡ id) × (left ≡ u)). subst (λ (y : ℕ × View). SeatFits n s.words held.0 held.1 held.2 y.0 y.1)
+    (λ k. (sym r.0 k, r.1 k)) ((R.seats id v at).0, λ _ x. refl))
     (λ (r : (j ≢ id) × (get_elem? s.views j ≡ some u)). R.seats j u r.1)
     (at_set s.views id j left u t))
-    (λ (t : right ≡ u). subst (λ (y : View). FitsRole n s.words held.0 held.1 held.2 j y.role
-    × (j ≢ held.2 → (x : ℕ) → unmarks x y.steps ≡ 0)) t (tt, λ _ x. none x))
+    (λ (t : right ≡ u). subst (SeatFits n s.words held.0 held.1 held.2 j) t (tt, λ _ x. none x))
     (at_snoc one right u j e)) in
     (held.0, held.1, held.2, now)
 

@@ -48,5 +48,5 @@ ends_placed n id v head phase ws slots polls final =
     let s = final.0 in let held = final.1.0 in let R = held.3 in
     let ok = subst (FitsRole n s.words held.0 held.1 held.2 id) polls (R.seats id v final.1.1).0 in
     let both = subst (λ (l : List ℕ). (at : Whereabouts n l s.views)
-    × (at.head ≡ head)) final.2 (whereabouts n held.0 held.1 held.2 s.words s.views R, sym ok.1) in
+    × (at.head ≡ head)) final.2 (whereabouts R, sym ok.1) in
     (s.views, both.0, both.1)

@@ -2,7 +2,6 @@ pub mod Common
 pub mod ListLemmas
 pub mod WordsLemmas
 pub mod ViewLemmas
-pub mod StepLemmas
 pub mod RowLemmas
 pub mod RowInvariantLemmas
 pub mod WhereaboutsLemmas
@@ -13,8 +12,6 @@ pub mod ScheduleLawLemmas
 pub mod StepMachineLemmas
 pub mod RuleLemmas
 pub mod BeginningLemmas
-pub mod LawsLemmas
 pub mod ReadyListLemmas
 pub mod WakingLemmas
-pub mod TakingLemmas
 pub mod ClosingLemmas

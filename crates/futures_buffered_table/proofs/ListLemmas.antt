@@ -28,11 +28,5 @@ earlier_or_last (suc k) a b zero x e = inl (omega arith, some-injective a x e)
 earlier_or_last (suc k) a b (suc j) x e = ⊎_elim (λ (t : (j < k) × (a ≡ x)). inl (omega (arith, t.0), t.1)) (λ (t : (j ≡ k)
     × (b ≡ x)). inr (ap suc t.0, t.1)) (earlier_or_last k a b j x e)
 
-pub if_yes : {X : Type 0} (b : Bool) (x y : X) → b ≡ true → (if b then x else y) ≡ x
-if_yes b x y e = grind arith
-
-pub if_no : {X : Type 0} (b : Bool) (x y : X) → b ≡ false → (if b then x else y) ≡ y
-if_no b x y e = grind arith
-
 pub by_test : {X : Type 0} (P : X → Type 0) (b : Bool) (x y : X) → (b ≡ true → P x) → (b ≡ false → P y) → P (if b then x else y)
 by_test P b x y yes_case no_case = grind arith

@@ -1,9 +1,8 @@
 -- The row: sums over lists, what follows an entry, the last entry, and the slots that go in and out.
-use Rattle.std.proofs.Common.{◌≡◌, ◌≢◌, ◌⊎◌, ℕ, zero, suc, ◌+◌, ◌<◌, ◌≤◌, List, [], ◌∷◌, ◌++◌, set, refl, sym, ap, arith, ⊎_elim, ◌∙◌, ltb, Bool}
+use Rattle.std.proofs.Common.{◌≡◌, ◌≢◌, ◌⊎◌, ℕ, zero, suc, ◌+◌, ◌<◌, ◌≤◌, List, [], ◌∷◌, ◌++◌, length, set, refl, sym, ap, arith, ⊎_elim, ◌∙◌, ltb}
 use Rattle.futures_buffered_table.proofs.Common.{InHand, Role, Cleared, Polls, last_entry, next, same, times, total, some, some-injective, some-ne-none, get_elem?}
-use Rattle.std.proofs.lemmas.Bool.Decides.{nat_tests, Decides-ltb}
+use Rattle.std.proofs.lemmas.Bool.Decides.{nat_tests}
 use Rattle.std.specs.Prelude.{if◌then◌else◌}
-use Rattle.futures_buffered_table.proofs.ListLemmas.{if_yes, if_no}
 
 pub total-append : {X : Type 0} (f : X → ℕ) (xs ys : List X) → total f (xs ++ ys) ≡ total f xs + total f ys
 total-append f [] ys = omega arith
@@ -54,6 +53,19 @@ total_some f (x ∷ xs) pos = ⊎_elim (λ (t : 0 < f x). (0, x, refl, t)) (λ (
 pub next_first : (h x : ℕ) (xs : List ℕ) → next h h (x ∷ xs) ≡ suc x
 next_first h x xs = grind (arith, nat_tests)
 
+-- after the first entry comes none, or the next
+pub row_end : (h : ℕ) (rest : List ℕ) → next h h rest ≡ 0 → rest ≡ []
+row_end h [] none = refl
+row_end h (x ∷ xs) none = let a = next_first h x xs in absurd (omega arith)
+
+pub row_goes_on : (h q : ℕ) (rest : List ℕ) → next h h rest ≡ suc q → (xs : List ℕ) × (rest ≡ q ∷ xs)
+row_goes_on h q [] is = absurd (omega arith)
+row_goes_on h q (x ∷ xs) is = let a : x ≡ q = let b = next_first h x xs in omega arith in (xs, ap (λ (y : ℕ). y ∷ xs) a)
+
+pub not_last : (p h q : ℕ) (rest : List ℕ) → next p h rest ≡ suc q → 0 < length rest
+not_last p h q [] is = absurd (omega arith)
+not_last p h q (x ∷ xs) is = omega arith
+
 pub next_later : (p h x : ℕ) (xs : List ℕ) → p ≢ h → next p h (x ∷ xs) ≡ next p x xs
 next_later p h x xs ne = grind (arith, nat_tests)
 
@@ -89,8 +101,7 @@ next_stays p h [] e q is = absurd (omega arith)
 next_stays p h (x ∷ xs) e q is = grind (arith, nat_tests, next_stays p x xs e q)
 
 pub alone : (h : ℕ) (rest : List ℕ) → h ≡ last_entry h rest → times h (h ∷ rest) ≤ 1 → rest ≡ []
-alone h [] is once = refl
-alone h (x ∷ xs) is once = let a = next_last h h (x ∷ xs) is once in let b = next_first h x xs in absurd (omega arith)
+alone h rest is once = row_end h rest (next_last h h rest is once)
 
 -- the row without the stub
 abbrev pub row_slots : ℕ → List ℕ → List ℕ
@@ -102,35 +113,25 @@ abbrev pub put_by : Role → List ℕ
 put_by (Cleared e) = e ∷ []
 put_by _ = []
 
--- the slot that the poller has taken out of the row and not yet answered
+-- the slot that the poller took out of the row: the step in this role returns it
 abbrev pub in_hand : Role → List ℕ
 in_hand (Polls h (InHand i)) = i ∷ []
 in_hand _ = []
 
--- the slot that a step in this role answers
-abbrev pub answered_by : Role → List ℕ
-answered_by (Polls h (InHand i)) = i ∷ []
-answered_by _ = []
-
--- a step from the role `old` to the role `new`, and from one row to another: what was put in comes at the end, and what is answered was the
--- first.
--- The hand of the poller is empty but in InHand, whose step is its answer
+-- a step from the role `old` to the role `new`, and from one row to another: what was put in comes at the end, and what is taken in hand was
+-- the first
 abbrev pub Flows : ℕ → Role → Role → List ℕ → List ℕ → Type 0
-Flows n (Polls h (InHand i)) new row now = (in_hand new ≡ []) × (row_slots n now ≡ row_slots n row)
 Flows n old new row now = row_slots n row ++ put_by old ≡ in_hand new ++ row_slots n now
 
 pub slots_slot : (n x : ℕ) (xs : List ℕ) → x < n → row_slots n (x ∷ xs) ≡ x ∷ row_slots n xs
-slots_slot n x xs lt = if_yes (ltb x n) (x ∷ row_slots n xs) (row_slots n xs) ((Decides-ltb x n).1 lt)
+slots_slot n x xs lt = grind (arith, nat_tests)
 
 pub slots_stub : (n x : ℕ) (xs : List ℕ) → x ≡ n → row_slots n (x ∷ xs) ≡ row_slots n xs
-slots_stub n x xs is = if_no (ltb x n) (x ∷ row_slots n xs) (row_slots n xs) (grind (arith, nat_tests))
-
-both : (b : Bool) (x : ℕ) (a c d : List ℕ) → a ++ c ≡ d → (if b then x ∷ a else a) ++ c ≡ (if b then x ∷ d else d)
-both b x a c d e = grind arith
+slots_stub n x xs is = grind (arith, nat_tests)
 
 pub slots-append : (n : ℕ) (xs ys : List ℕ) → row_slots n xs ++ row_slots n ys ≡ row_slots n (xs ++ ys)
 slots-append n [] ys = refl
-slots-append n (x ∷ xs) ys = both (ltb x n) x (row_slots n xs) (row_slots n ys) (row_slots n (xs ++ ys)) (slots-append n xs ys)
+slots-append n (x ∷ xs) ys = grind (arith, slots-append n xs ys)
 
 pub slots_put : (n : ℕ) (xs : List ℕ) (e : ℕ) → e < n → row_slots n xs ++ e ∷ [] ≡ row_slots n (xs ++ e ∷ [])
 slots_put n xs e lt = ap (λ (l : List ℕ). row_slots n xs ++ l) (sym (slots_slot n e [] lt)) ∙ slots-append n xs (e ∷ [])

@@ -6,10 +6,10 @@ use Rattle.futures_buffered_table.proofs.Common.{Empty, Pause, AtomicStep, Phase
 use Rattle.futures_buffered_table.specs.declared.step.StepReply.TheVariants.{Taken}
 use Rattle.futures_buffered_table.specs.ScheduleLaw.{AfterEach, AnswersInOrder, EmptyIsTrue, IsUnderWay, PauseHasCause, Made, Wake, WakerStands, WakerStood, answered, put_in, put_in_by, slot_named, wake_after, wake_of}
 use Rattle.futures_buffered_table.proofs.ScheduleLemmas.{IsReachable, pending, reachable_start, step_reaches}
-use Rattle.futures_buffered_table.proofs.EffectLemmas.{SomeWakerStands, row_ends_or_waker_stands}
-use Rattle.futures_buffered_table.proofs.RowLemmas.{alone, answered_by, in_hand, put_by, row_slots, slots_stub}
+use Rattle.futures_buffered_table.proofs.EffectLemmas.{IsPolls, SomeWakerStands, row_ends_or_waker_stands, wakes_only}
+use Rattle.futures_buffered_table.proofs.RowLemmas.{alone, in_hand, put_by, row_slots, slots_stub}
 use Rattle.futures_buffered_table.proofs.WordsLemmas.{tail_kept}
-use Rattle.futures_buffered_table.proofs.ListLemmas.{elem_at, place_low, if_yes, if_no}
+use Rattle.futures_buffered_table.proofs.ListLemmas.{elem_at, place_low}
 use Rattle.futures_buffered_table.proofs.ViewLemmas.{each_first}
 use Rattle.futures_buffered_table.proofs.RowInvariantLemmas.{head_low}
 
@@ -46,10 +46,10 @@ IsRight _ past = Unit {0}
 
 wake_same : (seat : ℕ) (e : Made) (past : List Made) → seat_of e.step ≡ seat →
     wake_of seat (e ∷ past) ≡ wake_after e.step e.reply (wake_of seat past)
-wake_same seat e past is = if_yes (seat_of e.step == seat) _ _ (grind (arith, nat_tests))
+wake_same seat e past is = grind (arith, nat_tests)
 
 wake_else : (seat : ℕ) (e : Made) (past : List Made) → seat_of e.step ≢ seat → wake_of seat (e ∷ past) ≡ wake_of seat past
-wake_else seat e past ne = if_no (seat_of e.step == seat) _ _ (grind (arith, nat_tests))
+wake_else seat e past ne = grind (arith, nat_tests)
 
 -- a waker that stands so is told of
 stands_told : (n : ℕ) (past : List Made) (c : Moment) (good : IsReachable n c) → IsTold n past c good → SomeWakerStands c.views →
@@ -62,11 +62,6 @@ event n c s = record { step = s; reply = reply_of_role n (view_at c s).role (fou
 abbrev StaysTold : (n : ℕ) (past : List Made) (c : Moment) (good : IsReachable n c) → Step → Type 0
 StaysTold n past c good s = IsRight (event n c s).reply past
     × ((on : IsReachable n (after_step n c s)) × IsTold n (event n c s ∷ past) (after_step n c s) on)
-
--- a wake's step
-abbrev pub IsPolls : Role → Type 0
-IsPolls (Polls h phase) = Unit {0}
-IsPolls _ = ⊥
 
 abbrev MayMake : Step → Role → Type 0
 MayMake (Mark seat slot) role = role ≡ Idle
@@ -81,7 +76,7 @@ put_on : (n : ℕ) (s : Step) (role : Role) (found : ℕ) (w : Wake) → MayMake
     put_in_by s (reply_of_role n role found) w ≡ put_by role
 put_on n s role found w may shows = grind arith
 
-slot_on : (n : ℕ) (role : Role) (found : ℕ) → slot_named (reply_of_role n role found) ≡ answered_by role
+slot_on : (n : ℕ) (role : Role) (found : ℕ) → slot_named (reply_of_role n role found) ≡ in_hand role
 slot_on n role found = grind arith
 
 put_poll : (reply : StepReply) (w : Wake) → put_in_by Poll reply w ≡ []
@@ -106,9 +101,6 @@ tail_or n h rest words j s role found w ok lt wakes shows = grind (arith, tail_k
 moved_on : (p q a b d x : List ℕ) → x ≡ a ++ p → p ++ q ≡ b ++ d → x ++ q ≡ (a ++ b) ++ d
 moved_on p q a b d x e f = ap (λ (l : List ℕ). l ++ q) e ∙ (append_assoc a p q ∙ (ap (λ (l : List ℕ). a ++ l) f ∙ sym (append_assoc a b d)))
 
-pub role_polls : (role : Role) → IsPolls role → (h : ℕ) × (phase : Phase) × (role ≡ Polls h phase)
-role_polls role is = grind arith
-
 wake_next : (n : ℕ) (past : List Made) (c : Moment) (good : IsReachable n c) → IsTold n past c good → (s : Step) →
     CanStep n (map role_of c.views) s → seat_of s < WAKE_SEATS → ((IsPolls (view_at c s).role → ⊥) → MayMake s (view_at c s).role) →
     ((view_at c s).role ≡ Idle → slot_of s < n) → StaysTold n past c good s
@@ -116,8 +108,7 @@ wake_next n past c good tells s can low may_of lt =
     let seat = seat_of s in let v = view_at c s in let found = found_at n c s in
     let there : get_elem? c.views seat ≡ some v = elem_at c.views seat spent_view (let a = good.1 in omega arith) in
     let ok : FitsRole n c.words good.2.0 good.2.1 WAKE_SEATS seat v.role = (good.2.2.seats seat v there).0 in
-    let wakes : IsPolls v.role → ⊥ = λ is. let p = role_polls v.role is in
-    let a = (subst (FitsRole n c.words good.2.0 good.2.1 WAKE_SEATS seat) p.2 ok).0 in omega arith in
+    let wakes : IsPolls v.role → ⊥ = wakes_only n c.words good.2.0 good.2.1 WAKE_SEATS seat v.role (λ z. omega arith) ok in
     let may = may_of wakes in
     let stub : v.stub ≡ n = good.0 seat v there in
     let goes_there = step_reaches n c good s can in
@@ -139,7 +130,7 @@ wake_next n past c good tells s can low may_of lt =
               (sym (wake_else j e past (λ z. t.0 (sym z)))) (tells.wakes j lj u t.1))
               (at_set c.views seat j (next_view (slot_of s) v found) u at);
           flow = (λ k. put_in past ++ put_on n s v.role found (wake_of seat past) may shows k)
-              ∙ (moved_on (pending n c good) (put_by v.role) (answered past) (answered_by v.role)
+              ∙ (moved_on (pending n c good) (put_by v.role) (answered past) (in_hand v.role)
               (pending n (after_step n c s) goes_there.0) (put_in past) tells.flow goes_there.1
               ∙ (λ k. (answered past ++ sym (slot_on n v.role found) k) ++ pending n (after_step n c s) goes_there.0));
           takes = λ u at. takes_as s e.reply past (tail n c.words) (tail n (after_step n c s).words) u.role low
@@ -153,7 +144,7 @@ wake_next n past c good tells s can low may_of lt =
     )
 
 -- a step of the poller
-module _ (n h : ℕ) (rest : List ℕ) (words : List ℕ) (views : List View) (R : KeepsRow n h rest WAKE_SEATS words views)
+module _ {n h : ℕ} {rest : List ℕ} {words : List ℕ} {views : List View} (R : KeepsRow n h rest WAKE_SEATS words views)
     (steps : List AtomicStep) (past : List Made) (stands : SomeWakerStands views → WakerStands past) where
   abbrev now_tail : Phase → ℕ → ℕ
   now_tail phase f = tail n (set words (word_of_role n 0 (Polls h phase)) (put_by_role n (Polls h phase) f))
@@ -169,7 +160,8 @@ module _ (n h : ℕ) (rest : List ℕ) (words : List ℕ) (views : List View) (R
   none_behind : (phase : Phase) → get_elem? views WAKE_SEATS ≡ some (record { stub = n; role = Polls h phase; steps = steps }) →
       owed_by h (Polls h phase) ≡ 0 → link n words h ≡ 0 → (x : ℕ) → (WakerStands past ⊎ WakerStood past)
       ⊎ (tail n (set words (n + h) x) ≡ h)
-  none_behind phase at owes zero_link x = grind (arith, tail_kept, head_low, row_ends_or_waker_stands)
+  none_behind phase at owes zero_link x =
+      let low = head_low R in let or = row_ends_or_waker_stands R steps phase at owes zero_link in grind (arith, tail_kept)
 
   poll_case : (phase : Phase) → get_elem? views WAKE_SEATS ≡ some (record { stub = n; role = Polls h phase; steps = steps }) →
       TellsPhase past (tail n words) h phase
@@ -183,7 +175,7 @@ module _ (n h : ℕ) (rest : List ℕ) (words : List ℕ) (views : List View) (R
   poll_case Moved at takes flow zero is = (tt, (tt, none_behind Moved at refl (sym is) 0))
   poll_case NoNext at takes flow f is = grind arith
   poll_case StubLinked at takes flow zero is =
-      let ok = (R.seats WAKE_SEATS _ at).0.2 in let or = row_ends_or_waker_stands n h rest WAKE_SEATS words views R steps StubLinked at refl (sym is) in
+      let ok = (R.seats WAKE_SEATS _ at).0.2 in let or = row_ends_or_waker_stands R steps StubLinked at refl (sym is) in
       grind arith
   poll_case phase at takes flow f is = (tt, tt)
 
@@ -196,12 +188,11 @@ poll_next n past c good tells =
     let same_v : p ≡ v = some-injective p v (sym polls.2 ∙ there) in
     let goes_there = step_reaches n c good Poll tt in
     let f : ℕ = get_or c.words (word_of_role n 0 p.role) 0 in
-    let case = poll_case n h good.2.1 c.words c.views good.2.2 polls.1 past (stands_told n past c good tells) phase polls.2
-    (tells.takes p polls.2) tells.flow f refl in
-    let Right : View → Type 0 = λ u. IsRight (reply_of_role n u.role (get_or c.words (word_of_role n 0 u.role) 0)) past
-    × TellsRole (record { step = Poll; reply = reply_of_role n u.role (get_or c.words (word_of_role n 0 u.role) 0) } ∷ past)
-    (tail n (set c.words (word_of_role n 0 u.role) (put_by_role n u.role (get_or c.words (word_of_role n 0 u.role) 0))))
-    (next_role n 0 u.role (get_or c.words (word_of_role n 0 u.role) 0)) in
+    let case = poll_case good.2.2 polls.1 past (stands_told n past c good tells) phase polls.2 (tells.takes p polls.2) tells.flow f refl in
+    let finds : View → ℕ = λ u. get_or c.words (word_of_role n 0 u.role) 0 in
+    let Right : View → Type 0 = λ u. IsRight (reply_of_role n u.role (finds u)) past
+    × TellsRole (record { step = Poll; reply = reply_of_role n u.role (finds u) } ∷ past)
+    (tail n (set c.words (word_of_role n 0 u.role) (put_by_role n u.role (finds u)))) (next_role n 0 u.role (finds u)) in
     let right : Right v = subst Right same_v case in
     let stub : n ≡ v.stub = ap (λ (u : View). u.stub) same_v in
     let found = found_at n c Poll in
@@ -214,7 +205,7 @@ poll_next n past c good tells =
           wakes = λ j lj u at. subst (λ (w : Wake). ShowsWake w u.role) (sym (wake_else j e past (λ z. omega arith)))
               (tells.wakes j lj u (sym (set_else c.views WAKE_SEATS j (next_view 0 v found) (λ z. omega arith)) ∙ at));
           flow = (λ k. put_in past ++ (put_poll e.reply (wake_of WAKE_SEATS past) ∙ sym no_put) k)
-              ∙ (moved_on (pending n c good) (put_by v.role) (answered past) (answered_by v.role)
+              ∙ (moved_on (pending n c good) (put_by v.role) (answered past) (in_hand v.role)
               (pending n (after_step n c Poll) goes_there.0) (put_in past) tells.flow goes_there.1
               ∙ (λ k. (answered past ++ sym (slot_on n v.role found) k) ++ pending n (after_step n c Poll) goes_there.0));
           takes = λ u at. subst (λ (y : View). TellsRole (e ∷ past) (tail n (after_step n c Poll).words) y.role)
@@ -234,48 +225,26 @@ next_here n past c good tells (Go seat) can = wake_next n past c good tells (Go 
     (λ e. absurd (can.1 (get_or-map role_of c.views seat spent_view ∙ e)))
 next_here n past c good tells Poll can = poll_next n past c good tells
 
--- what is right of a step, by its reply, follows of the turn
-empty_true : (t : Made) (past : List Made) → IsRight t.reply past → EmptyIsTrue (t ∷ past)
-empty_true t past right = λ is. subst (λ (r : StepReply). IsRight r past) is right
-
-pause_caused : (t : Made) (past : List Made) → IsRight t.reply past → PauseHasCause (t ∷ past)
-pause_caused t past right = λ is. subst (λ (r : StepReply). IsRight r past) is right
-
--- each turn is lawful
-abbrev Lawful : List Made → Type 0
+-- what holds of each turn
+abbrev pub Lawful : List Made → Type 0
 Lawful history = AnswersInOrder history × EmptyIsTrue history × PauseHasCause history
 
-lawful_from : (n : ℕ) (past : List Made) (c : Moment) (good : IsReachable n c) → IsTold n past c good → (ss : List Step) → Legal n c ss →
-    AfterEach Lawful past ss (replies_of n c ss)
-lawful_from n past c good tells [] legal = tt
-lawful_from n past c good tells (s ∷ ss) legal =
+lawful_from : (P : List Made → Type 0) → ((history : List Made) → Lawful history → P history) → (n : ℕ) (past : List Made) (c : Moment)
+    (good : IsReachable n c) → IsTold n past c good → (ss : List Step) → Legal n c ss → AfterEach P past ss (replies_of n c ss)
+lawful_from P f n past c good tells [] legal = tt
+lawful_from P f n past c good tells (s ∷ ss) legal =
     let one = next_here n past c good tells s legal.0 in
-    let t : Made = event n c s in (
-      ((pending n (after_step n c s) one.1.0, one.1.1.flow), empty_true t past one.0, pause_caused t past one.0),
-      lawful_from n (t ∷ past)
-          (after_step n c s) one.1.0 one.1.1 ss legal.1,
+    let t : Made = event n c s in
+    let right : (r : StepReply) → t.reply ≡ r → IsRight r past = λ r is. subst (λ (x : StepReply). IsRight x past) is one.0 in (
+      f (t ∷ past) ((pending n (after_step n c s) one.1.0, one.1.1.flow), right (Taken Empty), right (Taken Pause)),
+      lawful_from P f n (t ∷ past) (after_step n c s) one.1.0 one.1.1 ss legal.1,
     )
 
-lawful : (n : ℕ) (ss : List Step) → Legal n (at_start n) ss → AfterEach Lawful [] ss (replies_of n (at_start n) ss)
-lawful n ss legal = lawful_from n [] (at_start n) (reachable_start n) (record {
+-- so what follows from the laws holds after each step
+pub lawful : (P : List Made → Type 0) → ((history : List Made) → Lawful history → P history) → (n : ℕ) (ss : List Step) →
+    Legal n (at_start n) ss → AfterEach P [] ss (replies_of n (at_start n) ss)
+lawful P f n ss legal = lawful_from P f n [] (at_start n) (reachable_start n) (record {
   wakes = λ j lj v at. each_first WAKE_SEATS n (λ j v. ShowsWake (wake_of j []) v.role) (λ j l. tt) tt j v at;
   flow = sym (slots_stub n n [] refl);
   takes = each_first WAKE_SEATS n (λ j v. TellsRole [] (tail n (at_start n).words) v.role) (λ j l. tt) tt WAKE_SEATS;
 }) ss legal
-
-each_of : (P Q : List Made → Type 0) → ((history : List Made) → P history → Q history) →
-    (past : List Made) (ss : List Step) (rs : List StepReply) → AfterEach P past ss rs → AfterEach Q past ss rs
-each_of P Q f past [] [] all = tt
-each_of P Q f past [] (r ∷ rs) all = all
-each_of P Q f past (s ∷ ss) [] all = all
-each_of P Q f past (s ∷ ss) (r ∷ rs) all =
-    (f (record { step = s; reply = r } ∷ past) all.0, each_of P Q f (record { step = s; reply = r } ∷ past) ss rs all.1)
-
-pub in_order : (n : ℕ) (ss : List Step) → Legal n (at_start n) ss → AfterEach AnswersInOrder [] ss (replies_of n (at_start n) ss)
-in_order n ss legal = each_of Lawful AnswersInOrder (λ _ x. x.0) [] ss (replies_of n (at_start n) ss) (lawful n ss legal)
-
-pub empties : (n : ℕ) (ss : List Step) → Legal n (at_start n) ss → AfterEach EmptyIsTrue [] ss (replies_of n (at_start n) ss)
-empties n ss legal = each_of Lawful EmptyIsTrue (λ _ x. x.1) [] ss (replies_of n (at_start n) ss) (lawful n ss legal)
-
-pub pauses : (n : ℕ) (ss : List Step) → Legal n (at_start n) ss → AfterEach PauseHasCause [] ss (replies_of n (at_start n) ss)
-pauses n ss legal = each_of Lawful PauseHasCause (λ _ x. x.2) [] ss (replies_of n (at_start n) ss) (lawful n ss legal)

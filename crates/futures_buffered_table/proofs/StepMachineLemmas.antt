@@ -7,13 +7,19 @@ use Rattle.std.proofs.lemmas.Grind.{get_or_default_zero}
 use Rattle.futures_buffered_table.specs.StepMachine.{AreThoseOf, CanMake, IsLedTo, Leads, LeadsOn, Machine, MakesStep, replies_to, PlacesSlots}
 use Rattle.futures_buffered_table.specs.Step.{role_at}
 use Rattle.futures_buffered_table.proofs.ScheduleLemmas.{legal_more, reachable_at, replies_more, run_more}
-use Rattle.futures_buffered_table.proofs.StepLemmas.{seat_in, seat_low, slot_low}
 use Rattle.futures_buffered_table.proofs.RowInvariantLemmas.{head_low}
 use Rattle.futures_buffered_table.proofs.TallyLemmas.{tallied_at}
 use Rattle.futures_buffered_table.proofs.WhereaboutsLemmas.{whereabouts}
 use Rattle.futures_buffered_table.specs.StepMachineInvariant.{KeepsMachine}
 use Rattle.futures_buffered_table.proofs.EffectLemmas.{in_range_prop, word_range, role_range}
 use Rattle.futures_buffered_table.proofs.ListLemmas.{elem_at}
+
+-- a step that can be made names a seat and a slot that there are
+seat_in : (n : ℕ) (roles : List Role) (s : Step) → CanStep n roles s → seat_of s < WAKE_SEATS + 1
+seat_in n roles s can = grind arith
+
+slot_low : (n : ℕ) (roles : List Role) (s : Step) → CanStep n roles s → slot_of s ≤ n
+slot_low n roles s can = grind arith
 
 -- a schedule for n slots leads to these words and roles
 abbrev LeadsTo : ℕ → List Step → List ℕ → List Role → Type 0
@@ -84,17 +90,15 @@ range_there m seat low r =
     let there : get_elem? c.views seat ≡ some v = elem_at c.views seat spent_view (let a = good.1 in omega arith) in
     let role_is : get_or m.roles seat Idle ≡ v.role = ap (λ (l : List Role). get_or l seat Idle) r.1.1.1 ∙ get_or-map role_of c.views seat
     spent_view in
-    let R = good.2.2 in
     subst (InRange n) (sym role_is)
-    (role_range n c.words good.2.0 good.2.1 WAKE_SEATS seat v.role (head_low n good.2.0 good.2.1 WAKE_SEATS c.words c.views R)
-    (R.seats seat v there).0)
+    (role_range n c.words good.2.0 good.2.1 WAKE_SEATS seat v.role (head_low good.2.2) (good.2.2.seats seat v there).0)
 
 pub places_slots : (m : Machine) → PlacesSlots m
 places_slots m = λ schedule leads.
     let n = m.capacity in let c : Moment = run n (at_start n) schedule in let good = reachable_at n schedule leads.0 in
     let R : KeepsRow n good.2.0 good.2.1 WAKE_SEATS m.words c.views = subst
     (λ (ws : List ℕ). KeepsRow n good.2.0 good.2.1 WAKE_SEATS ws c.views) (sym leads.1.0) good.2.2 in
-    (whereabouts n good.2.0 good.2.1 WAKE_SEATS m.words c.views R, tallied_at n m.words schedule leads.0 good leads.1.0)
+    (whereabouts R, tallied_at n m.words schedule leads.0 good leads.1.0)
 
 -- the code has read the seat and the slot of a step that can be made, and the seat's role
 pub record HasRead (m : Machine) (step : Step) (seat slot : ℕ) (role : Role) : Type 0 where
@@ -112,10 +116,10 @@ pub record HasFound (m : Machine) (slot : ℕ) (role : Role) (word found put : �
   pub of_next : next ≡ next_role m.capacity slot role found
   pub of_reply : reply ≡ reply_of_role m.capacity role found
 
-pub has_read : {m : Machine} {roles : List Role} {step : Step} {seat slot : ℕ} {role : Role} → KeepsMachine m → roles ≡ m.roles →
+pub has_read : {m : Machine} {roles : List Role} (step : Step) {seat slot : ℕ} {role : Role} → KeepsMachine m → roles ≡ m.roles →
     CanStep m.capacity roles step × (seat ≡ seat_of step) × (slot ≡ slot_of step) → role ≡ get_or m.roles seat role
     → HasRead m step seat slot role
-has_read {m} {roles} {step} {seat} {slot} {role} K same told of_role = grind arith
+has_read {m} {roles} step {seat} {slot} {role} K same told of_role = grind arith
 
 pub has_found : {m : Machine} {slot : ℕ} {role : Role} {word found put : ℕ} {next : Role} {reply : StepReply} →
     word ≡ word_of_role m.capacity slot role → found ≡ get_or m.words word found → put ≡ put_by_role m.capacity role found
@@ -123,15 +127,15 @@ pub has_found : {m : Machine} {slot : ℕ} {role : Role} {word found put : ℕ} 
     HasFound m slot role word found put next reply
 has_found at_word of_word of_put of_next of_reply = grind arith
 
-module _ (m : Machine) (step : Step) (seat slot : ℕ) (x : Role) (read : HasRead m step seat slot x) where
+module _ {m : Machine} {step : Step} {seat slot : ℕ} {x : Role} (read : HasRead m step seat slot x) where
   low : seat < length m.roles
-  low = subst (λ (k : ℕ). k < length m.roles) (sym read.of_seat) (seat_low m.capacity m.roles step read.can read.keeps.seated)
+  low = let a = seat_in m.capacity m.roles step read.can in let b = read.of_seat in let d = read.keeps.seated in omega arith
 
   role_is : get_or m.roles seat Idle ≡ x
   role_is = read_role m.roles seat x read.of_role low
 
   slot_in : slot ≤ m.capacity
-  slot_in = subst (λ (k : ℕ). k ≤ m.capacity) (sym read.of_slot) (slot_low m.capacity m.roles step read.can)
+  slot_in = let a = slot_low m.capacity m.roles step read.can in let b = read.of_slot in omega arith
 
   range : InRange m.capacity x
   range = subst (InRange m.capacity) role_is
@@ -147,7 +151,7 @@ module _ (m : Machine) (step : Step) (seat slot : ℕ) (x : Role) (read : HasRea
   pub word_low : (word : ℕ) → word ≡ word_of_role m.capacity slot x → word < length m.words
   word_low word is = let a = word_range m.capacity slot x slot_in range in let b = read.keeps.wide in omega arith
 
-  module _ (word found put : ℕ) (next : Role) (reply : StepReply) (did : HasFound m slot x word found put next reply) where
+  module _ {word found put : ℕ} {next : Role} {reply : StepReply} (did : HasFound m slot x word found put next reply) where
     abbrev pub now : Machine
     now = record { capacity = m.capacity; words = set m.words word put; roles = set m.roles seat next }
 

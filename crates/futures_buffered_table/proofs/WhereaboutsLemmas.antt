@@ -14,9 +14,9 @@ pub agrees : (n h : ℕ) (rest : List ℕ) (poller j : ℕ) (words : List ℕ) (
     AgreesWith n h rest role
 agrees n h rest poller j words role ok = grind arith
 
-abbrev pub whereabouts : (n h : ℕ) (rest : List ℕ) (poller : ℕ) (words : List ℕ) (views : List View) →
+abbrev pub whereabouts : {n h : ℕ} {rest : List ℕ} {poller : ℕ} {words : List ℕ} {views : List View} →
     KeepsRow n h rest poller words views → Whereabouts n words views
-whereabouts n h rest poller words views R = record {
+whereabouts {n} {h} {rest} {poller} {words} {views} R = record {
   head = h;
   rest = rest;
   linked = λ p there. (R.linked p there).1;

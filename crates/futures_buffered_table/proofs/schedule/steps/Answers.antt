@@ -3,7 +3,7 @@ use Rattle.std.proofs.lemmas.List.{take_more, take_all}
 use Rattle.futures_buffered_table.proofs.Common.{Step, Mark, Legal, at_start}
 use Rattle.futures_buffered_table.specs.ScheduleLaw.{AfterEach, AnswersInOrder, EmptyIsTrue, PauseHasCause}
 use Rattle.futures_buffered_table.specs.Schedule.{IsStuckAt}
-use Rattle.futures_buffered_table.proofs.ScheduleLawLemmas.{in_order, empties, pauses}
+use Rattle.futures_buffered_table.proofs.ScheduleLawLemmas.{lawful}
 use Rattle.futures_buffered_table.proofs.StepMachineLemmas.{stuck_here, whole}
 use Rattle.futures_buffered_table.proofs.schedule.steps.Goals as goal
 use Rattle.futures_buffered_table.proofs.ListLemmas.{elem_at}
@@ -43,9 +43,9 @@ returns c =
     (take_all c.loop-k.k steps c.loop-k-test.false) so_far.leads so_far.replied in
     record {
       replies = all;
-      order = subst (AfterEach AnswersInOrder [] steps) (sym all.1) (in_order n steps all.0);
-      empty = subst (AfterEach EmptyIsTrue [] steps) (sym all.1) (empties n steps all.0);
-      pause = subst (AfterEach PauseHasCause [] steps) (sym all.1) (pauses n steps all.0);
+      order = subst (AfterEach AnswersInOrder [] steps) (sym all.1) (lawful AnswersInOrder (λ _ x. x.0) n steps all.0);
+      empty = subst (AfterEach EmptyIsTrue [] steps) (sym all.1) (lawful EmptyIsTrue (λ _ x. x.1) n steps all.0);
+      pause = subst (AfterEach PauseHasCause [] steps) (sym all.1) (lawful PauseHasCause (λ _ x. x.2) n steps all.0);
       stuck = search rules;
       too_large = search rules;
     }

@@ -1,7 +1,6 @@
 use Rattle.std.proofs.Common.{ap, arith}
 use Rattle.futures_buffered_table.specs.ReadyList.{Poller}
 use Rattle.futures_buffered_table.proofs.ReadyListLemmas.{in_role, seat_kept}
-use Rattle.futures_buffered_table.proofs.TakingLemmas.{taken}
 use Rattle.futures_buffered_table.proofs.ready_list.ReadyList.take_with.Goals as goal
 
 pub take_from-head-requires : goal.take_from-head-requires
@@ -13,4 +12,4 @@ take_from-head-requires g c =
 pub invariant_of-seat : goal.invariant_of-seat
 invariant_of-seat g c =
     let did = c.take_from-head.ensures in let now = c.take_from-head.new.seat in
-    taken _ now _ did.role.0 (seat_kept _ _ _ c.self.invariant _ c.self.view_is now _ did.role.0) did.role.1
+    record { seat = seat_kept _ _ _ c.self.invariant _ c.self.view_is now _ did.role.0; low = let a = did.role.0.1 in let b = did.role.1 in omega arith }

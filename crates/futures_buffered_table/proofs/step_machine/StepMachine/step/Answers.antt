@@ -1,6 +1,6 @@
 use Rattle.std.proofs.Common.{rules, subst}
 use Rattle.futures_buffered_table.specs.StepMachine.{Machine, CanMake, MakesStep, LeadsOn, IsLedTo}
-use Rattle.futures_buffered_table.proofs.StepMachineLemmas.{HasRead, HasFound, has_read, has_found, may_touch, may_put, word_low, now, makes_step, leads_there, keeps_now, places_slots}
+use Rattle.futures_buffered_table.proofs.StepMachineLemmas.{has_read, has_found, may_touch, may_put, word_low, now, makes_step, leads_there, keeps_now, places_slots}
 use Rattle.futures_buffered_table.proofs.step_machine.StepMachine.step.Goals as goal
 
 pub returns-in_err-seat-clause-reached : goal.returns-in_err-seat-clause-reached
@@ -11,51 +11,41 @@ returns-in_err-seat-clause-placed c = places_slots _
 
 pub touches-word-requires : goal.touches-word-requires
 touches-word-requires c =
-    let read : HasRead _ c.args.step c.in_ok-seat.seat c.in_ok-seat.slot c.index-role.result.now = has_read c.self.invariant
-    c.as_slice.ensures.value c.in_ok-seat.ensures c.index-role.ensures in
-    may_touch _ _ _ _ _ read
+    let read = has_read c.args.step c.self.invariant c.as_slice.ensures.value c.in_ok-seat.ensures c.index-role.ensures in
+    may_touch read
 
 pub index-found-requires : goal.index-found-requires
 index-found-requires c =
-    let read : HasRead _ c.args.step c.in_ok-seat.seat c.in_ok-seat.slot c.index-role.result.now = has_read c.self.invariant
-    c.as_slice.ensures.value c.in_ok-seat.ensures c.index-role.ensures in
-    let low = word_low _ _ _ _ _ read c.touches-word.result c.touches-word.ensures in search (rules, low)
+    let read = has_read c.args.step c.self.invariant c.as_slice.ensures.value c.in_ok-seat.ensures c.index-role.ensures in
+    let low = word_low read c.touches-word.result c.touches-word.ensures in search (rules, low)
 
 pub puts-requires : goal.puts-requires
 puts-requires c =
-    let read : HasRead _ c.args.step c.in_ok-seat.seat c.in_ok-seat.slot c.index-role.result.now = has_read c.self.invariant
-    c.as_slice.ensures.value c.in_ok-seat.ensures c.index-role.ensures in
-    may_put _ _ _ _ _ read
+    let read = has_read c.args.step c.self.invariant c.as_slice.ensures.value c.in_ok-seat.ensures c.index-role.ensures in
+    may_put read
 
 pub index_mut-requires : goal.index_mut-requires
 index_mut-requires c =
-    let read : HasRead _ c.args.step c.in_ok-seat.seat c.in_ok-seat.slot c.index-role.result.now = has_read c.self.invariant
-    c.as_slice.ensures.value c.in_ok-seat.ensures c.index-role.ensures in
-    let low = word_low _ _ _ _ _ read c.touches-word.result c.touches-word.ensures in search (rules, low)
+    let read = has_read c.args.step c.self.invariant c.as_slice.ensures.value c.in_ok-seat.ensures c.index-role.ensures in
+    let low = word_low read c.touches-word.result c.touches-word.ensures in search (rules, low)
 
 pub invariant_of-self : goal.invariant_of-self
 invariant_of-self c =
-    let read : HasRead _ c.args.step c.in_ok-seat.seat c.in_ok-seat.slot c.index-role.result.now = has_read c.self.invariant
-    c.as_slice.ensures.value c.in_ok-seat.ensures c.index-role.ensures in
-    let did : HasFound _ c.in_ok-seat.slot c.index-role.result.now c.touches-word.result c.index-found.result.now c.puts.result
-    c.role_after.result c.reply.result = has_found c.touches-word.ensures c.index-found.ensures c.puts.ensures c.role_after.ensures
-    c.reply.ensures in
-    keeps_now _ _ _ _ _ read _ _ _ _ _ did
+    let read = has_read c.args.step c.self.invariant c.as_slice.ensures.value c.in_ok-seat.ensures c.index-role.ensures in
+    let did = has_found c.touches-word.ensures c.index-found.ensures c.puts.ensures c.role_after.ensures c.reply.ensures in
+    keeps_now read did
 
 pub returns : goal.returns
 returns c =
-    let read : HasRead _ c.args.step c.in_ok-seat.seat c.in_ok-seat.slot c.index-role.result.now = has_read c.self.invariant
-    c.as_slice.ensures.value c.in_ok-seat.ensures c.index-role.ensures in
-    let did : HasFound _ c.in_ok-seat.slot c.index-role.result.now c.touches-word.result c.index-found.result.now c.puts.result
-    c.role_after.result c.reply.result = has_found c.touches-word.ensures c.index-found.ensures c.puts.ensures c.role_after.ensures
-    c.reply.ensures in
+    let read = has_read c.args.step c.self.invariant c.as_slice.ensures.value c.in_ok-seat.ensures c.index-role.ensures in
+    let did = has_found c.touches-word.ensures c.index-found.ensures c.puts.ensures c.role_after.ensures c.reply.ensures in
     record {
       refused = search rules;
       made =
-          subst (λ (old : Machine). CanMake old c.args.step × MakesStep old c.args.step (now _ _ _ _ _ read _ _ _ _ _ did) c.reply.result)
-          c.self.view_is (read.can, makes_step _ _ _ _ _ read _ _ _ _ _ did);
-      leads = subst (λ (old : Machine). LeadsOn old c.args.step (now _ _ _ _ _ read _ _ _ _ _ did) c.reply.result) c.self.view_is
-          (leads_there _ _ _ _ _ read _ _ _ _ _ did);
-      reached = (keeps_now _ _ _ _ _ read _ _ _ _ _ did).reached;
+          subst (λ (old : Machine). CanMake old c.args.step × MakesStep old c.args.step (now read did) c.reply.result)
+          c.self.view_is (read.can, makes_step read did);
+      leads = subst (λ (old : Machine). LeadsOn old c.args.step (now read did) c.reply.result) c.self.view_is
+          (leads_there read did);
+      reached = (keeps_now read did).reached;
       placed = places_slots _;
     }
