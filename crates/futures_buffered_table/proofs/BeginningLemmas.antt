@@ -109,13 +109,10 @@ full_begins n =
     let held = wakes_all n n (omega arith) in
     let v : View = first_view record { capacity = n; full = true } in
     let w : View = record { stub = n; role = Idle; steps = all_wakes n } in
-    let R = held.3 in (
-      held.0,
-      held.1,
-      held.2,
-      same_sums R (v ∷ []) (λ e. refl) (λ p. refl) (λ e. omega arith) (λ e. omega arith)
-          (only_at (SeatFits n (full_words n) held.0 held.1 held.2) v ((R.seats 0 (first_poller n) refl).0, λ _ e. wakes_unmark_none n n e)),
-    )
+    let R = held.3 in
+    let now = same_sums R (v ∷ []) (λ e. refl) (λ p. refl) (λ e. omega arith) (λ e. omega arith)
+    (only_at (SeatFits n (full_words n) held.0 held.1 held.2) v ((R.seats 0 (first_poller n) refl).0, λ _ e. wakes_unmark_none n n e)) in
+    (held.0, held.1, held.2, now)
 
 pub begins : (key : ListKey) (words : List ℕ) → words ≡ words_at_first key →
     HoldsRow key.capacity record { words = words; homes = []; views = first_view key ∷ [] }

@@ -46,6 +46,12 @@ in_range_prop n role = hlevel props
 abbrev pub SomeWakerStands : List View → Type 0
 SomeWakerStands views = (j : ℕ) × ((i : ℕ) × (p : ℕ) × (u : View) × (get_elem? views j ≡ some u) × (u.role ≡ Swapped i p))
 
+-- a step that puts back what it finds changes no word
+same_after : {n h : ℕ} {rest : List ℕ} {poller : ℕ} {words : List ℕ} {views : List View} (i found : ℕ) → found ≡ get_or words i 0 →
+    KeepsRow n h rest poller words views → KeepsRow n h rest poller (set words i found) views
+same_after {n} {h} {rest} {poller} {words} {views} i found is R =
+    rw (subst (λ (x : ℕ). set words i x ≡ words) (sym is) (set-get_or words i 0)) R
+
 -- the seat id has the role and the steps, and makes a step
 module _ {n h : ℕ} {rest : List ℕ} {poller : ℕ} {words : List ℕ} {views : List View} (R : KeepsRow n h rest poller words views) (id : ℕ)
     (steps : List AtomicStep) where
@@ -65,17 +71,11 @@ module _ {n h : ℕ} {rest : List ℕ} {poller : ℕ} {words : List ℕ} {views 
 
   mark_swap : (slot : ℕ) → slot < n → get_elem? views id ≡ some (with_role Idle) → (found : ℕ) → found ≡ mark words slot →
       KeepsSomeRow Idle (set words slot 1) (next_role n slot Idle found) (step_of_role n slot Idle found)
-  mark_swap slot lt at zero is = (
-    h,
-    rest,
-    wins_mark R id (then_role (Won slot) (MarkSwap slot 0)) (MarkSwap slot 0) at refl (λ _ _. refl) slot lt
-        (sym is) (search rules) lt,
-    row_stays,
-  )
+  mark_swap slot lt at zero is =
+      let now = wins_mark R id steps (Won slot) (MarkSwap slot 0) at (λ _ _. refl) slot lt (sym is) (search rules) lt in (h, rest, now, row_stays)
   mark_swap slot lt at (suc k) is =
-      let one : get_or words slot 0 ≡ 1 = let a = R.whereabouts slot lt in omega arith in
-      let same_words : set words slot 1 ≡ words = subst (λ (x : ℕ). set words slot x ≡ words) one (set-get_or words slot 0) in
-      let m = MarkSwap slot (suc k) in (h, rest, rw same_words (quiet R id (then_role Idle m) m at refl (λ _ _. refl) (search rules) tt), row_stays)
+      let one : 1 ≡ get_or words slot 0 = let a = R.whereabouts slot lt in omega arith in
+      let now = same_after slot 1 one (quiet R id steps Idle (MarkSwap slot (suc k)) at (λ _ _. refl) (search rules) tt) in (h, rest, now, row_stays)
 
   -- a step of a wake, in whatever role the seat is
   pub wake_keeps : (slot : ℕ) (role : Role) → (role ≡ Idle → slot < n) → (IsPolls role → ⊥) → get_elem? views id ≡ some (with_role role)
@@ -84,22 +84,15 @@ module _ {n h : ℕ} {rest : List ℕ} {poller : ℕ} {words : List ℕ} {views 
       (step_of_role n slot role found)
   wake_keeps slot Idle lt wakes at found is = mark_swap slot (lt refl) at found is
   wake_keeps slot (Won e) lt wakes at found is = let ok = (R.seats id (with_role (Won e)) at).0 in
-      (h, rest, clears R id (then_role (Cleared e) (LinkClear e)) (LinkClear e) at refl (λ _ _. refl) e (omega arith) (search rules) (λ z. (ok, z)), row_stays)
+      let now = clears R id steps (Cleared e) (LinkClear e) at (λ _ _. refl) e (omega arith) (search rules) (λ z. (ok, z)) in (h, rest, now, row_stays)
   wake_keeps slot (Cleared e) lt wakes at found is = let ok = (R.seats id (with_role (Cleared e)) at).0 in
-      subst (λ (x : ℕ). KeepsSomeRow (Cleared e) (set words (tail_at n) e) (Swapped e x) (TailSwap e x)) (sym is) (
-        h,
-        rest ++ e ∷ [],
-        puts_in R id (then_role (Swapped e (tail n words)) (TailSwap e (tail n words))) (TailSwap e (tail n words)) at refl (λ _ _. refl)
-            e (let a = ok.0 in omega arith) ok.1 (search rules) (λ le z. (ok.0, le, z)),
-        slots_put n (h ∷ rest) e ok.0,
-      )
-  wake_keeps slot (Swapped e p) lt wakes at found is = let ok = (R.seats id (with_role (Swapped e p)) at).0 in (
-    h,
-    rest,
-    links_up R id (then_role Idle (LinkWrite p e)) (LinkWrite p e) at refl (λ _ _. refl) e p (let a = ok.0 in omega arith) ok.1 ok.2
-        (search rules) tt,
-    row_stays,
-  )
+      let now = puts_in R id steps (Swapped e (tail n words)) (TailSwap e (tail n words)) at (λ _ _. refl) e (let a = ok.0 in omega arith) ok.1
+      (search rules) (λ le z. (ok.0, le, z)) in
+      subst (λ (x : ℕ). KeepsSomeRow (Cleared e) (set words (tail_at n) e) (Swapped e x) (TailSwap e x)) (sym is)
+      (h, rest ++ e ∷ [], now, slots_put n (h ∷ rest) e ok.0)
+  wake_keeps slot (Swapped e p) lt wakes at found is = let ok = (R.seats id (with_role (Swapped e p)) at).0 in
+      let now = links_up R id steps Idle (LinkWrite p e) at (λ _ _. refl) e p (let a = ok.0 in omega arith) ok.1 ok.2 (search rules) tt in
+      (h, rest, now, row_stays)
   wake_keeps slot (Polls head phase) lt wakes at found is = absurd (wakes tt)
 
 -- a step of the poller, whose head is h
@@ -117,20 +110,15 @@ module _ {n h : ℕ} {rest : List ℕ} {poller : ℕ} {words : List ℕ} {views 
   ok_of : (phase : Phase) → Polling phase → FitsPhase n words h rest phase
   ok_of phase at = (R.seats poller (with_role R poller steps (Polls h phase)) at).0.2
 
-  unchanged : (i found : ℕ) → found ≡ get_or words i 0 → set words i found ≡ words
-  unchanged i found is = subst (λ (x : ℕ). set words i x ≡ words) (sym is) (set-get_or words i 0)
+  mine : (m : AtomicStep) → poller ≢ poller → (e : ℕ) → is_unmark e m ≡ 0
+  mine m ne = absurd (ne refl)
 
   -- a read that tells nothing: the next phase has no more in hand
   reads : (phase next_phase : Phase) (m : AtomicStep) → Polling phase → Turns n (Polls h phase) (Polls h next_phase) m no no no no no no
       → FitsPhase n words h rest next_phase → Flows n (Polls h phase) (Polls h next_phase) (h ∷ rest) (h ∷ rest)
       → (i found : ℕ) → found ≡ get_or words i 0 → PollKeepsRow phase (set words i found) (Polls h next_phase) m
-  reads phase next_phase m at T ok flow i found is = (
-    h,
-    rest,
-    rw (unchanged i found is)
-        (quiet R poller (then_role R poller steps (Polls h next_phase) m) m at refl (λ ne. absurd (ne refl)) T (refl, refl, ok)),
-    flow,
-  )
+  reads phase next_phase m at T ok flow i found is =
+      let now = same_after i found is (quiet R poller steps (Polls h next_phase) m at (mine m) T (refl, refl, ok)) in (h, rest, now, flow)
 
   -- the link of the head names q: the head goes on to q
   heads_on : (phase next_phase : Phase) (q : ℕ) → Polling phase → suc q ≡ link n words h
@@ -142,13 +130,8 @@ module _ {n h : ℕ} {rest : List ℕ} {poller : ℕ} {words : List ℕ} {views 
   heads_on phase next_phase q at is T new_out new_out_stub ok flow =
       let more = row_goes_on h q rest (follows R q (sym is)).0 in
       let R' : KeepsRow n h (q ∷ more.0) poller words views = subst (λ (r : List ℕ). KeepsRow n h r poller words views) more.1 R in
-      let w : View = then_role R poller steps (Polls q next_phase) (LinkRead h (suc q)) in (
-        q,
-        more.0,
-        rw (unchanged (n + h) (suc q) is) (goes_on R' w (LinkRead h (suc q)) at refl (λ z. omega arith) T new_out new_out_stub
-            (λ lq ne lh. (refl, refl, ok more.0 lq ne lh))),
-        flow more.0 more.1,
-      )
+      let now = same_after (n + h) (suc q) is (goes_on R' steps (Polls q next_phase) (LinkRead h (suc q)) at (λ z. omega arith) T new_out new_out_stub
+      (λ lq ne lh. (refl, refl, ok more.0 lq ne lh))) in (q, more.0, now, flow more.0 more.1)
 
   -- the head is a slot
   read_on : (phase none : Phase) → Polling phase → h < n → Turns n (Polls h phase) (Polls h none) (LinkRead h 0) no no no no no no
@@ -201,13 +184,8 @@ module _ {n h : ℕ} {rest : List ℕ} {poller : ℕ} {words : List ℕ} {views 
           (let b = lt in let a = same_else n h (λ z. omega arith) in omega arith)
 
       takes_stub_alone : found ≡ h → PollKeepsRow NoNext (set words (tail_at n) found) (Polls h Last) (TailRead found)
-      takes_stub_alone e = (
-        h,
-        rest,
-        rw (unchanged (tail_at n) found is) (takes_stub R poller (then_role R poller steps (Polls h Last) (TailRead found))
-            (TailRead found) at refl (λ ne. absurd (ne refl)) (stub_free e) (no_stub NoNext refl at) (search rules) (refl, refl, lt)),
-        stays,
-      )
+      takes_stub_alone e = let now = same_after (tail_at n) found is (takes_stub R poller steps (Polls h Last) (TailRead found) at
+          (mine (TailRead found)) (stub_free e) (no_stub NoNext refl at) (search rules) (refl, refl, lt)) in (h, rest, now, stays)
 
   -- where the head's link names none, the row has one entry, or a waker stands between its tail swap and its link write
   pub row_ends_or_waker_stands : (phase : Phase) → Polling phase → owed_by h (Polls h phase) ≡ 0 →
@@ -223,8 +201,8 @@ module _ {n h : ℕ} {rest : List ℕ} {poller : ℕ} {words : List ℕ} {views 
           × (u : View) × (get_elem? views j ≡ some u) × (u.role ≡ Swapped i p)
       waiter j u e (Swapped i p) is pos = (i, p, u, e, is)
       waiter j u e (Polls head ph) is pos =
-          let mine : j ≡ poller = (subst (FitsRole n words h rest poller j) is (R.seats j u e).0).0 in
-          let same_u = some-injective u (with_role R poller steps (Polls h phase)) (sym e ∙ (ap (get_elem? views) mine ∙ at)) in
+          let at_poller : j ≡ poller = (subst (FitsRole n words h rest poller j) is (R.seats j u e).0).0 in
+          let same_u = some-injective u (with_role R poller steps (Polls h phase)) (sym e ∙ (ap (get_elem? views) at_poller ∙ at)) in
           let a : owed_by h u.role ≡ 0 = ap (λ (y : View). owed_by h y.role) same_u ∙ owes_none in absurd (omega arith)
       waiter j u e role is pos = let a : owed_by h u.role ≡ 0 = ap (owed_by h) is in absurd (omega arith)
 
@@ -236,33 +214,17 @@ module _ {n h : ℕ} {rest : List ℕ} {poller : ℕ} {words : List ℕ} {views 
   poll_keeps slot AtStub at found is = reads AtStub Start (TailRead found) at (search rules) (head_low R) stays (tail_at n) found is
   poll_keeps slot Moved at found is = read_on Moved NoNext at (ok_of Moved at) (search rules) (λ q. search rules) (ok_of Moved at) stays found is
   poll_keeps slot NoNext at found is = tail_read at found is
-  poll_keeps slot Last at found is = (
-    h,
-    rest,
-    clears R poller (then_role R poller steps (Polls h StubCleared) (LinkClear n)) (LinkClear n) at refl
-        (λ ne. absurd (ne refl)) n (omega arith) (search rules) (λ z. (refl, refl, (ok_of Last at, z))),
-    stays,
-  )
-  poll_keeps slot StubCleared at found is = let ok = ok_of StubCleared at in let l : ℕ = tail n words in subst
-      (λ (x : ℕ). PollKeepsRow StubCleared (set words (tail_at n) n) (Polls h (StubPut x)) (TailSwap n x)) (sym is) (
-        h,
-        rest ++ n ∷ [],
-        puts_in R poller (then_role R poller steps (Polls h (StubPut l)) (TailSwap n l)) (TailSwap n l) at refl (λ ne. absurd (ne refl))
-            n (omega arith) ok.1 (search rules) (λ le z. (refl, refl, (ok.0, le, z))),
-        slots_put_stub n (h ∷ rest),
-      )
-  poll_keeps slot (StubPut p) at found is = let ok = ok_of (StubPut p) at in (
-    h,
-    rest,
-    links_up R poller (then_role R poller steps (Polls h StubLinked) (LinkWrite p n)) (LinkWrite p n) at refl (λ ne. absurd (ne refl))
-        n p (omega arith) ok.1 ok.2 (search rules) (refl, refl, (ok.0, not_last p h n rest ok.2)),
-    stays,
-  )
+  poll_keeps slot Last at found is = let now = clears R poller steps (Polls h StubCleared) (LinkClear n) at (mine (LinkClear n)) n (omega arith)
+      (search rules) (λ z. (refl, refl, (ok_of Last at, z))) in (h, rest, now, stays)
+  poll_keeps slot StubCleared at found is = let ok = ok_of StubCleared at in let l : ℕ = tail n words in
+      let now = puts_in R poller steps (Polls h (StubPut l)) (TailSwap n l) at (mine (TailSwap n l)) n (omega arith) ok.1 (search rules)
+      (λ le z. (refl, refl, (ok.0, le, z))) in
+      subst (λ (x : ℕ). PollKeepsRow StubCleared (set words (tail_at n) n) (Polls h (StubPut x)) (TailSwap n x)) (sym is)
+      (h, rest ++ n ∷ [], now, slots_put_stub n (h ∷ rest))
+  poll_keeps slot (StubPut p) at found is = let ok = ok_of (StubPut p) at in
+      let now = links_up R poller steps (Polls h StubLinked) (LinkWrite p n) at (mine (LinkWrite p n)) n p (omega arith) ok.1 ok.2 (search rules)
+      (refl, refl, (ok.0, not_last p h n rest ok.2)) in (h, rest, now, stays)
   poll_keeps slot StubLinked at found is = read_on StubLinked Start at (ok_of StubLinked at).0 (search rules) (λ q. search rules) (head_low R) stays found is
-  poll_keeps slot (InHand i) at found is = let ok = ok_of (InHand i) at in (
-    h,
-    rest,
-    unmarks_slot R poller (then_role R poller steps (Polls h Start) (Unmark i)) (Unmark i) at refl (λ ne. absurd (ne refl)) i ok.1
-        (search rules) (refl, refl, ok.0),
-    stays,
-  )
+  poll_keeps slot (InHand i) at found is = let ok = ok_of (InHand i) at in
+      let now = unmarks_slot R poller steps (Polls h Start) (Unmark i) at (mine (Unmark i)) i ok.1 (search rules) (refl, refl, ok.0) in
+      (h, rest, now, stays)

@@ -37,12 +37,8 @@ module _ (table : TableId) (key n : ℕ) (L : KeepsList table key n) (seen : Lis
     pub may_step : (a b : ℕ) (f : ℕ → ℕ) → ((found : ℕ) → put_by_role n role found ≡ f found)
         → (seat.table_id ≡ table) × (i < table.words)
         × Allows (HoldsRow key) table.slots seat.id seat.me i f (PlaysRole (table_step table.slots i a b none) seat.me)
-    may_step a b f put = (
-      sits.0 ∙ this_table,
-      in_words,
-      allows n seat.id i seat.me.0.steps role (lt cap) there table.slots key L.keyed seat.me is_me
-          a b f (λ found. found) put (λ _. refl) (λ _ told. told),
-    )
+    may_step a b f put = let step = allows n seat.id i seat.me.0.steps role (lt cap) there table.slots key L.keyed seat.me is_me a b f
+        (λ found. found) put (λ _. refl) (λ _ told. told) in (sits.0 ∙ this_table, in_words, step)
 
     pub may_store : (new : ℕ) → ((found : ℕ) → put_by_role n role found ≡ new)
         → ((found : ℕ) → next_view i (seated n role seat.me.0.steps).0 found ≡ next_view i (seated n role seat.me.0.steps).0 new) →
@@ -50,12 +46,8 @@ module _ (table : TableId) (key n : ℕ) (L : KeepsList table key n) (seen : Lis
         → (seat.table_id ≡ table) × (i < table.words)
         × Allows (HoldsRow key) table.slots seat.id seat.me i (λ _. new)
         (λ _. PlaysRole (table_step table.slots i new 0 none) seat.me new)
-    may_store new put blind told = (
-      sits.0 ∙ this_table,
-      in_words,
-      allows n seat.id i seat.me.0.steps role (lt cap) there table.slots key L.keyed
-          seat.me is_me new 0 (λ _. new) (λ _. new) put blind (λ _ _. told),
-    )
+    may_store new put blind told = let step = allows n seat.id i seat.me.0.steps role (lt cap) there table.slots key L.keyed seat.me is_me new 0
+        (λ _. new) (λ _. new) put blind (λ _ _. told) in (sits.0 ∙ this_table, in_words, step)
 
   -- it may read the link of its head, a slot
   pub may_read_slot : (seat : Seat ℕ View) (head : ℕ) → ReadsSlot seen head seat → head ≤ seen.capacity

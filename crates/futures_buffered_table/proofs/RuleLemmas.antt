@@ -119,14 +119,11 @@ same_sums {n} {h} {rest} {poller} {words} {views} R now outs oweds won undone se
 pub grows : (n : ℕ) (v : View) (s : State ℕ View) → HoldsRow n s →
     HoldsRow n record { words = s.words; homes = s.homes; views = s.views ++ new_waker_beside v ∷ [] }
 grows n v s held =
-    let w : View = new_waker_beside v in (
-      held.0,
-      held.1,
-      held.2,
-      same_sums held.3 (s.views ++ w ∷ []) (λ e. grind (arith, total-append)) (λ p. grind (arith, total-append))
-          (λ e. grind (arith, total-append)) (λ e. grind (arith, total-append)) (λ j u e. ⊎_elim (λ t. held.3.seats j u t)
-          (λ (t : w ≡ u). subst (SeatFits n s.words held.0 held.1 held.2 j) t (tt, λ _ x. refl)) (at_snoc s.views w u j e)),
-    )
+    let w : View = new_waker_beside v in
+    let now = same_sums held.3 (s.views ++ w ∷ []) (λ e. grind (arith, total-append)) (λ p. grind (arith, total-append))
+    (λ e. grind (arith, total-append)) (λ e. grind (arith, total-append)) (λ j u e. ⊎_elim (λ t. held.3.seats j u t)
+    (λ (t : w ≡ u). subst (SeatFits n s.words held.0 held.1 held.2 j) t (tt, λ _ x. refl)) (at_snoc s.views w u j e)) in
+    (held.0, held.1, held.2, now)
 
 pub splits : (n id : ℕ) (v : View) → Splits (HoldsRow n) id v v (new_waker_beside v)
 splits n id v s held at =

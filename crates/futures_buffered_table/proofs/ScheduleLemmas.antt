@@ -59,11 +59,8 @@ wake_reaches n c good step low lt =
     let words_now = set c.words (word_of n c step) (put_by_role n v.role found) in
     let still_on : get_elem? now WAKE_SEATS ≡ some (record { stub = n; role = Polls kept.0 polls.0; steps = polls.1 }) =
     still ∙ (λ k. some (record { stub = n; role = Polls (same_head k) polls.0; steps = polls.1 })) in
-    let on : IsReachable n (record { words = words_now; views = now }) = (
-      stubs_set n c.views seat w good.0 refl,
-      length-set c.views seat w ∙ good.1,
-      (kept.0, kept.1, kept.2, (polls.0, polls.1, still_on, polls.3)),
-    ) in
+    let stubs = stubs_set n c.views seat w good.0 refl in let wide = length-set c.views seat w ∙ good.1 in
+    let on : IsReachable n (record { words = words_now; views = now }) = (stubs, wide, (kept.0, kept.1, kept.2, (polls.0, polls.1, still_on, polls.3))) in
     let row : List ℕ = row_slots n (kept.0 ∷ kept.1) in
     let flow : row_slots n (h ∷ rest) ++ put_by v.role ≡ row =
     kept.3 ∙ ap (λ (l : List ℕ). l ++ row) (no_hand _ (wake_stays n (slot_of step) v.role found wakes)) in
@@ -98,11 +95,8 @@ poll_reaches n c good =
     at_next ∙ (λ k. some (record { stub = n; role = Polls (same_head k) next.1; steps = w.steps })) in
     let won : (e : ℕ) → wins e w.steps ≡ 0 = λ e. let a = polls.3 e in let b = poll_wins_none e n h polls.0 f in
     omega (arith, total-append (is_win e) polls.1 (step_of_role n 0 (Polls h polls.0) f ∷ [])) in
-    let on : IsReachable n (polled p) = (
-      stubs_set n c.views WAKE_SEATS w good.0 refl,
-      length-set c.views WAKE_SEATS w ∙ good.1,
-      (kept.0, kept.1, kept.2, (next.1, w.steps, at_on, won)),
-    ) in
+    let stubs = stubs_set n c.views WAKE_SEATS w good.0 refl in let wide = length-set c.views WAKE_SEATS w ∙ good.1 in
+    let on : IsReachable n (polled p) = (stubs, wide, (kept.0, kept.1, kept.2, (next.1, w.steps, at_on, won))) in
     let row : List ℕ = row_slots n (kept.0 ∷ kept.1) in
     let flow : row_slots n (h ∷ rest) ++ [] ≡ in_hand (Polls kept.0 next.1) ++ row = kept.3 ∙
     (λ k. in_hand ((next.2 ∙ ap (λ (x : ℕ). Polls x next.1) same_head) k) ++ row) in
