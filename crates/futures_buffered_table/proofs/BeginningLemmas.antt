@@ -1,7 +1,7 @@
 -- A list begins with its row, full or not: a full list has the words and the steps that wakes of its slots, in order,
 -- leave.
 use Rattle.std.proofs.Common.{◌≡◌, ◌≢◌, ℕ, zero, suc, ◌+◌, ◌<◌, ◌≤◌, List, [], ◌∷◌, ◌++◌, Bool, true, false, length, get_or, set, refl, sym, ap, ◌∙◌, subst, ⊎_elim, arith, append_assoc, length-set, get_or-set_other, get_or-set_same}
-use Rattle.futures_buffered_table.proofs.Common.{AtomicStep, MarkSwap, LinkClear, TailSwap, LinkWrite, Phase, Start, Role, Idle, Won, Cleared, Swapped, Polls, View, owed_by, total, FitsRole, KeepsRow, outside_by, empty_words, link, mark, tail, tail_at, unmarks, wins, next_role, put_by_role, step_of_role, word_of_role, first_poller, new_waker_beside, HoldsRow, Me, State, TableId, at_set, at_snoc, set-get_or, some, some-injective, some-ne-none, get_elem?}
+use Rattle.futures_buffered_table.proofs.Common.{AtomicStep, MarkSwap, LinkClear, TailSwap, LinkWrite, Phase, Start, Role, Idle, Won, Cleared, Swapped, Polls, View, owed_by, total, FitsRole, KeepsRow, outside_by, empty_words, link, mark, tail, tail_at, is_unmark, unmarks, wins, next_role, put_by_role, step_of_role, word_of_role, first_poller, new_waker_beside, HoldsRow, Me, State, TableId, at_set, at_snoc, set-get_or, some, some-injective, some-ne-none, get_elem?}
 use Rattle.atomic_table.specs.Table.{Splits}
 use Rattle.futures_buffered_table.specs.declared.rule.ListKey.{ListKey}
 use Rattle.futures_buffered_table.specs.Beginning.{all_wakes, entry_before, first_view, full_words, steps_at_first, wake_in_order, wakes_in_order, words_at_first, words_in_order}
@@ -9,8 +9,8 @@ use Rattle.futures_buffered_table.specs.ReadyListInvariant.{KeepsPoller, KeepsWa
 use Rattle.futures_buffered_table.specs.View.{waker_with_steps_of, without_steps}
 use Rattle.futures_buffered_table.proofs.EffectLemmas.{IsPolls, wake_keeps}
 use Rattle.futures_buffered_table.proofs.RowLemmas.{total-append, total_set}
-use Rattle.futures_buffered_table.proofs.RuleLemmas.{SeatFits, begins_at, grows, same_sums}
-use Rattle.futures_buffered_table.proofs.TallyLemmas.{unmarks-append}
+use Rattle.futures_buffered_table.proofs.RowInvariantLemmas.{SeatFits}
+use Rattle.futures_buffered_table.proofs.RuleLemmas.{begins_at, grows, same_sums}
 use Rattle.futures_buffered_table.proofs.WordsLemmas.{empty_tail, empty_wide, empty_word}
 
 entry_low : (n k : ℕ) → k < n → entry_before n k ≤ n
@@ -94,7 +94,7 @@ wakes_all n (suc k) le = wakes_one n k (omega arith) (wakes_all n k (omega arith
 -- wakes unmark nothing
 pub wakes_unmark_none : (n k e : ℕ) → unmarks e (wakes_in_order n k) ≡ 0
 wakes_unmark_none n zero e = refl
-wakes_unmark_none n (suc k) e = unmarks-append e (wakes_in_order n k) (wake_in_order n k) ∙ (let a = wakes_unmark_none n k e in omega arith)
+wakes_unmark_none n (suc k) e = total-append (is_unmark e) (wakes_in_order n k) (wake_in_order n k) ∙ (let a = wakes_unmark_none n k e in omega arith)
 
 pub first_unmarks_none : (key : ListKey) (e : ℕ) → unmarks e (steps_at_first key) ≡ 0
 first_unmarks_none key e = grind (arith, wakes_unmark_none key.capacity key.capacity e)

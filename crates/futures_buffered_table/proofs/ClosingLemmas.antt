@@ -1,11 +1,11 @@
 -- Wake seats that go into the poll seat, one by one, and the end of a list.
 use Rattle.std.proofs.Common.{◌≡◌, ℕ, zero, suc, ◌+◌, ◌≤◌, List, [], ◌∷◌, ◌++◌, get_or, nat_eq, true, sym, ap, ◌∙◌, subst, arith, append-nil, append_assoc, ◌<◌}
 use mathlib.Core.Bool.{not}
-use Rattle.futures_buffered_table.proofs.Common.{AtomicStep, Phase, Polls, View, FitsRole, mark, unmarks, wins, HoldsRow, Whereabouts, Waker, some, some-injective, some-ne-none, get_elem?}
+use Rattle.futures_buffered_table.proofs.Common.{AtomicStep, Phase, Polls, View, FitsRole, mark, is_win, unmarks, wins, HoldsRow, Whereabouts, Waker, some, some-injective, some-ne-none, get_elem?}
 use Rattle.atomic_table.specs.Table.{Final, Seen}
 use Rattle.futures_buffered_table.specs.Closing.{steps_of}
-use Rattle.futures_buffered_table.proofs.TallyLemmas.{wins-append}
-use Rattle.futures_buffered_table.proofs.RowLemmas.{total_at, total_one}
+use Rattle.futures_buffered_table.proofs.ListLemmas.{elem_at, place_low}
+use Rattle.futures_buffered_table.proofs.RowLemmas.{total-append, total_at, total_one}
 use Rattle.futures_buffered_table.proofs.WhereaboutsLemmas.{whereabouts}
 
 pub joined_on : (mine now whole : List AtomicStep) (left : List Waker) (s : Waker) (rest : List Waker) → left ≡ s ∷ rest →
@@ -18,13 +18,11 @@ joined_all mine whole left none so_far = sym (append-nil mine) ∙ (ap (λ l. mi
 -- where the wake seats unmarked nothing, all that was won by them was unmarked by the poller, or is marked
 pub handed_in : (e : ℕ) (poll all : List AtomicStep) (seats : List Waker) (left : ℕ) → all ≡ poll ++ steps_of seats →
     unmarks e all ≡ unmarks e poll → wins e all ≤ unmarks e all + left → wins e (steps_of seats) ≤ unmarks e poll + left
-handed_in e poll all seats left is same le = let a = wins-append e poll (steps_of seats) in
+handed_in e poll all seats left is same le = let a = total-append (is_win e) poll (steps_of seats) in
     let b : wins e all ≡ wins e (poll ++ steps_of seats) = ap (wins e) is in omega arith
 
 pub word_is : (items : List ℕ) (i r : ℕ) → get_elem? items i ≡ some r → get_or items i 0 ≡ r
-word_is [] i r is = absurd (some-ne-none r (sym is))
-word_is (x ∷ xs) zero r is = some-injective x r is
-word_is (x ∷ xs) (suc i) r is = word_is xs i r is
+word_is items i r is = some-injective _ _ (sym (elem_at items i 0 (place_low items i r is)) ∙ is)
 
 pub marked_is : (m r : ℕ) → m ≡ r → m ≤ 1 → (not (nat_eq r 0) ≡ true → m ≡ 1) × (m ≡ 1 → not (nat_eq r 0) ≡ true)
 marked_is m r is le = grind arith

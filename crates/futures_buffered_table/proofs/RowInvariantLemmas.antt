@@ -31,6 +31,10 @@ module _ (n : ℕ) (words now : List ℕ) (h : ℕ) (rest : List ℕ) (h' : ℕ)
   role_moves poller j (Polls head phase) f g k ok = (ok.0, ok.1 ∙ (k ok.0).0, phase_moves phase head f g (k ok.0).0 (k ok.0).1 ok.2)
   role_moves poller j role f g k ok = ok
 
+-- a seat fits the row, and does not unmark unless it polls
+abbrev pub SeatFits : ℕ → List ℕ → ℕ → List ℕ → ℕ → ℕ → View → Type 0
+SeatFits n words h rest poller j v = FitsRole n words h rest poller j v.role × (j ≢ poller → (e : ℕ) → unmarks e v.steps ≡ 0)
+
 -- no entry, and the entry i alone
 abbrev pub no : ℕ → ℕ
 no e = 0
@@ -100,11 +104,9 @@ module _ {n h : ℕ} {rest : List ℕ} {poller : ℕ} {words : List ℕ} {views 
           → ((p i : ℕ) → 0 < owed views p → next p h rest ≡ suc i → next p h' rest' ≡ suc i)
           → (id ≢ poller → (h ≡ h') × (length rest ≤ length rest'))
           → FitsRole n now h' rest' poller id new
-          → (j : ℕ) (u : View) → get_elem? seen j ≡ some u → FitsRole n now h' rest' poller j u.role
-          × (j ≢ poller → (e : ℕ) → unmarks e u.steps ≡ 0)
+          → (j : ℕ) (u : View) → get_elem? seen j ≡ some u → SeatFits n now h' rest' poller j u
       seats_now now h' rest' f g k mine j u e = ⊎_elim
-          (λ (t : (j ≡ id) × (after ≡ u)). subst (λ (y : ℕ × View). FitsRole n now h' rest' poller y.0 y.1.role
-          × (y.0 ≢ poller → (x : ℕ) → unmarks x y.1.steps ≡ 0)) (λ i. (sym t.0 i, t.1 i)) (
+          (λ (t : (j ≡ id) × (after ≡ u)). subst (λ (y : ℕ × View). SeatFits n now h' rest' poller y.0 y.1) (λ i. (sym t.0 i, t.1 i)) (
             mine,
             λ ne x. let a = (R.seats id _ at).1 ne x in let b = by_poller ne x in omega (arith, total-append (is_unmark x) steps (m ∷ [])),
           ))
@@ -322,9 +324,8 @@ keeps_first count n = record {
   unowed = λ p none. no_owed p;
   whereabouts = λ e lt. grind (arith, empty_word, same_else, no_out);
   stub_once = let a = same_here n in let d = no_out n in omega arith;
-  seats = each_first count n (λ j v. FitsRole n (empty_words n) n [] count j v.role
-      × (j ≢ count → (e : ℕ) →
-      unmarks e v.steps ≡ 0)) (λ j lt. (tt, λ ne e. refl)) ((refl, refl, (let a : n ≤ n = omega arith in a)), λ ne e. refl);
+  seats = each_first count n (SeatFits n (empty_words n) n [] count) (λ j lt. (tt, λ ne e. refl))
+      ((refl, refl, (let a : n ≤ n = omega arith in a)), λ ne e. refl);
   tallied = λ e lt. grind (arith, empty_word, none_of);
 }
   where

@@ -9,7 +9,7 @@ use Rattle.futures_buffered_table.specs.View.{with_steps_of}
 use Rattle.futures_buffered_table.proofs.RowLemmas.{row_goes_on, same_cases, same_here, total-append, total_set}
 use Rattle.futures_buffered_table.specs.Rule.{PlaysNewWaker}
 use Rattle.futures_buffered_table.proofs.EffectLemmas.{IsPolls, poll_keeps, wake_keeps}
-use Rattle.futures_buffered_table.proofs.RowInvariantLemmas.{follows, keeps_first, tail_low}
+use Rattle.futures_buffered_table.proofs.RowInvariantLemmas.{SeatFits, follows, keeps_first, tail_low}
 
 pub begins_at : (n : ℕ) (words : List ℕ) → words ≡ empty_words n →
     HoldsRow n record { words = words; homes = []; views = first_poller n ∷ [] }
@@ -101,10 +101,6 @@ module _ (n id i : ℕ) (steps : List AtomicStep) where
       let now = subst (λ (x : ℕ × View). HoldsRow n record { words = set s.words i x.0; homes = s.homes; views = set s.views id x.1 })
       (λ k. (put found k, blind found k)) kept.0 in
       (next_view i (seated n role steps).0 (seen found), keeps, tt, now, (refl, refl, told found kept.1)))
-
--- a seat fits the row, and does not unmark unless it polls
-abbrev pub SeatFits : ℕ → List ℕ → ℕ → List ℕ → ℕ → ℕ → View → Type 0
-SeatFits n words h rest poller j v = FitsRole n words h rest poller j v.role × (j ≢ poller → (e : ℕ) → unmarks e v.steps ≡ 0)
 
 -- the rule sees of the views only these sums, and what each seat knows
 pub same_sums : {n h : ℕ} {rest : List ℕ} {poller : ℕ} {words : List ℕ} {views : List View} → KeepsRow n h rest poller words views → (now : List View)

@@ -7,12 +7,6 @@ use Rattle.futures_buffered_table.proofs.ScheduleLemmas.{IsReachable, reachable_
 use Rattle.futures_buffered_table.proofs.ListLemmas.{elem_at, place_low}
 use Rattle.futures_buffered_table.proofs.ViewLemmas.{each_first}
 
-pub unmarks-append : (e : ℕ) (a b : List AtomicStep) → unmarks e (a ++ b) ≡ unmarks e a + unmarks e b
-unmarks-append e a b = total-append (is_unmark e) a b
-
-pub wins-append : (e : ℕ) (a b : List AtomicStep) → wins e (a ++ b) ≡ wins e a + wins e b
-wins-append e a b = total-append (is_win e) a b
-
 -- a sum over k + 1 terms
 but_last : {X : Type 0} (f : X → ℕ) (xs : List X) (k : ℕ) (d : X) → length xs ≡ suc k → total f xs ≡ total f (take k xs) + f (get_or xs k d)
 but_last f [] k d is = absurd (omega arith)

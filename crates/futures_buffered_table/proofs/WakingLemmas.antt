@@ -1,10 +1,10 @@
 -- A wake seat after a wake.
 use Rattle.std.proofs.Common.{◌≡◌, ℕ, ◌≤◌, List, [], ◌∷◌, refl, ap, ◌∙◌, subst, arith, ◌≢◌}
-use Rattle.futures_buffered_table.proofs.Common.{Woke, Fresh, AtomicStep, MarkSwap, LinkClear, TailSwap, LinkWrite, Idle, View, unmarks, next_role, AddsSteps, Seat}
+use Rattle.futures_buffered_table.proofs.Common.{Woke, Fresh, AtomicStep, MarkSwap, LinkClear, TailSwap, LinkWrite, Idle, View, is_unmark, unmarks, next_role, AddsSteps, Seat}
 use Rattle.futures_buffered_table.specs.Waking.{IsWake}
 use Rattle.futures_buffered_table.proofs.ReadyListLemmas.{adds_more}
 use Rattle.futures_buffered_table.specs.ReadyListInvariant.{KeepsWaker, KeepsSeat}
-use Rattle.futures_buffered_table.proofs.TallyLemmas.{unmarks-append}
+use Rattle.futures_buffered_table.proofs.RowLemmas.{total-append}
 
 -- a wake unmarks nothing
 pub no_unmark : (e i : ℕ) (shape : List AtomicStep) (woke : Woke) → IsWake i shape woke → unmarks e shape ≡ 0
@@ -27,13 +27,10 @@ pub woken : (before now : Seat ℕ View) (i : ℕ) (shape : List AtomicStep) (wo
     KeepsSeat now.table_id now.me Idle → AddsSteps before now shape → IsWake i shape woke → KeepsWaker now.table_id now.me
 woken before now i shape woke K seat adds is = record {
   seat = seat;
-  wakes = λ e. ap (unmarks e) adds ∙ (unmarks-append e before.me.0.steps shape ∙ (let a = K.wakes e in
+  wakes = λ e. ap (unmarks e) adds ∙ (total-append (is_unmark e) before.me.0.steps shape ∙ (let a = K.wakes e in
       let b = no_unmark e i shape woke is in omega arith));
 }
 
 -- a mark swap that found the mark set leaves the seat idle
 pub still_idle : (n slot found : ℕ) → found ≢ 0 → next_role n slot Idle found ≡ Idle
 still_idle n slot found ne = grind arith
-
-pub one_found : (found : ℕ) → found ≢ 0 → found ≤ 1 → found ≡ 1
-one_found found ne le = grind arith

@@ -64,35 +64,23 @@ CallsAtStub leaves n made Pause head before after =
     ((head ≡ n) × leaves (made ++ LinkRead n 0 ∷ []) before after)
     ⊎ ((head ≢ n) × (after ≡ before))
 
--- the same for a dequeue that returns the head after it, and its result
-abbrev pub CallsFrom : {B : Type 0} → (List AtomicStep → B → B → Type 0) → ℕ → List AtomicStep
-    → ℕ × Taken → B → B → Type 0
-CallsFrom leaves n made result = CallsAtStub leaves n made result.1 result.0
-
--- what the part of a dequeue leaves that continues from the slot at the head; its steps have this shape
+-- What the part of a dequeue leaves that continues from the slot `h` at the head; its steps have this shape. The part
+-- returns the head after it, and what the dequeue returns.
 pub record TakesFromSlot
     (list : ListIdentity)
     (h : ℕ)
     (has_shape : ℕ → ℕ → List AtomicStep → Taken → ℕ → Type 0)
     (old : Seat ℕ View)
-    (answer : Taken)
-    (head : ℕ)
+    (result : ℕ × Taken)
     (new : Seat ℕ View)
     : Type 0 where
   -- the seat is between two dequeues, and its head is an entry
-  pub role : IsInRole list (Polls head Start) new × (head ≤ list.capacity)
+  pub role : IsInRole list (Polls result.0 Start) new × (result.0 ≤ list.capacity)
   -- the dequeue does not return Empty
-  pub never : answer ≢ Empty
+  pub never : result.1 ≢ Empty
   -- if it returns Pause, the head does not change
-  pub stays : answer ≡ Pause → head ≡ h
+  pub stays : result.1 ≡ Pause → result.0 ≡ h
   -- a slot that it returns is below the capacity
-  pub named : (slot : ℕ) → answer ≡ Slot slot → slot < list.capacity
+  pub named : (slot : ℕ) → result.1 ≡ Slot slot → slot < list.capacity
   -- the steps that it made
-  pub shape : (shape : List AtomicStep) × AddsSteps old new shape × has_shape list.capacity h shape answer head
-
--- the part after the link of the head was found to point to no entry; and below, the part before that link is read
-abbrev pub TakesAtLast : ListIdentity → ℕ → Seat ℕ View → ℕ × Taken → Seat ℕ View → Type 0
-TakesAtLast list h old result new = TakesFromSlot list h IsAtLast old result.1 result.0 new
-
-abbrev pub TakesAtSlot : ListIdentity → ℕ → Seat ℕ View → ℕ × Taken → Seat ℕ View → Type 0
-TakesAtSlot list h old result new = TakesFromSlot list h IsFromSlot old result.1 result.0 new
+  pub shape : (shape : List AtomicStep) × AddsSteps old new shape × has_shape list.capacity h shape result.1 result.0

@@ -131,16 +131,12 @@ impl ReadyList {
         if capacity > MAX_CAPACITY {
             return Err(NewFault::TooLarge);
         }
-        let Ok(words) = words_of(alloc, key) else {
-            return Err(NewFault::Memory);
-        };
-        let Ok((table, mut seat)) = Table::<u8, View, ListKey, RowRule, Global>::of_words(
+        let words = words_of(alloc, key)?;
+        let (table, mut seat) = Table::<u8, View, ListKey, RowRule, Global>::of_words(
             alloc,
             words.as_slice(),
             &key,
-        ) else {
-            return Err(NewFault::Memory);
-        };
+        )?;
         let other = table.shared.split_seat::<FirstWaker>(&mut seat);
         let poll = PollSeat {
             seat,

@@ -84,12 +84,8 @@ impl StepMachine {
         if capacity > MAX_CAPACITY {
             return Err(NewFault::TooLarge);
         }
-        let Ok(words) = first_words(alloc, capacity) else {
-            return Err(NewFault::Memory);
-        };
-        let Ok(roles) = first_roles(alloc, capacity) else {
-            return Err(NewFault::Memory);
-        };
+        let words = first_words(alloc, capacity)?;
+        let roles = first_roles(alloc, capacity)?;
         Ok(StepMachine {
             capacity,
             words,

@@ -4,8 +4,8 @@ ghost use Rattle.futures_buffered_table.specs.Types.{Slot, Empty, Pause, AtomicS
 ghost use Rattle.futures_buffered_table.specs.Types.{LinkRead, TailRead, Unmark, Start, AtStub, Moved, NoNext, Last};
 ghost use Rattle.futures_buffered_table.specs.Types.{StubCleared, StubPut, StubLinked, InHand, Polls};
 ghost use Rattle.futures_buffered_table.specs.Effect.{next_role};
-ghost use Rattle.futures_buffered_table.specs.Taking.{CallsAtStub, CallsFrom, IsTaking, ReadsSlot};
-ghost use Rattle.futures_buffered_table.specs.Taking.{TakesAtLast, TakesAtSlot};
+ghost use Rattle.futures_buffered_table.specs.Taking.{CallsAtStub, IsAtLast, IsFromSlot, IsTaking, ReadsSlot};
+ghost use Rattle.futures_buffered_table.specs.Taking.{TakesFromSlot};
 
 use crate::answer::Taken;
 use crate::ready_list::{PollSeat, ReadyList};
@@ -159,7 +159,7 @@ impl ReadyList {
     fn take_last(&self, seat: &mut Seat<u8, View>, head: usize) -> (usize, Taken)
         requires role { IsInRole self.now (Polls head NoNext) seat.old
             × (head < self.now.capacity) }
-        ensures { TakesAtLast self.now head seat.old result seat.new }
+        ensures { TakesFromSlot self.now head IsAtLast seat.old result seat.new }
     {
         if self.read_tail(seat, head) != head {
             return (head, Taken::Pause);
@@ -179,7 +179,7 @@ impl ReadyList {
     fn take_slot(&self, seat: &mut Seat<u8, View>, head: usize) -> (usize, Taken)
         requires role { IsInRole self.now (Polls head Moved) seat.old
             × (head < self.now.capacity) }
-        ensures { TakesAtSlot self.now head seat.old result seat.new }
+        ensures { TakesFromSlot self.now head IsFromSlot seat.old result seat.new }
     {
         let found = self.read_slot(seat, head);
         if found == 0 {
@@ -204,8 +204,8 @@ impl ReadyList {
         ensures named { (slot : ℕ) → result.1 ≡ Slot slot → slot < self.now.capacity }
         ensures shape { (shape : List AtomicStep) × AddsSteps seat.old seat.new shape
             × IsTaking self.now.capacity head shape result.1 result.0 }
-        ensures calls { CallsFrom B.leaves self.now.capacity seat.old.me.0.steps
-            result before.old before.new }
+        ensures calls { CallsAtStub B.leaves self.now.capacity seat.old.me.0.steps
+            result.1 result.0 before.old before.new }
     {
         let found = self.read_first(seat, head);
         if head == self.capacity {

@@ -1,7 +1,7 @@
 use Rattle.std.proofs.Common.{sym, ap, ◌∙◌, arith}
-use Rattle.futures_buffered_table.proofs.Common.{unmarks, ListIdentity, Poller, Waker}
+use Rattle.futures_buffered_table.proofs.Common.{is_unmark, unmarks, ListIdentity, Poller, Waker}
 use Rattle.futures_buffered_table.proofs.RuleLemmas.{joins}
-use Rattle.futures_buffered_table.proofs.TallyLemmas.{unmarks-append}
+use Rattle.futures_buffered_table.proofs.RowLemmas.{total-append}
 use Rattle.futures_buffered_table.proofs.ready_list.PollSeat.join.Goals as goal
 
 pub join_seat-requires : goal.join_seat-requires
@@ -18,7 +18,7 @@ pub returns-clause-unmarks : goal.returns-clause-unmarks
 returns-clause-unmarks c = λ e.
     let s = c.self.inside.seat in let o = c.other.inside.seat in
     let joined = ap (λ m. unmarks e m.0.steps) c.join_seat.ensures.2 in
-    let sum = unmarks-append e s.me.0.steps o.me.0.steps in
+    let sum = total-append (is_unmark e) s.me.0.steps o.me.0.steps in
     let none = c.other.invariant.wakes e in
     let mine = ap (λ (v : Poller). unmarks e v.steps) c.self.view_is in
     omega arith

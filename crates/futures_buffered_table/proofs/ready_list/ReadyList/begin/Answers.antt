@@ -10,24 +10,24 @@ of_words-requires c = begins c.args.key c.as_slice.result.now
 
 pub split_seat-other-requires : goal.split_seat-other-requires
 split_seat-other-requires c =
-    let made = c.in-Ok-of_words.ensures in let key = c.args.key in let table = c.in-Ok-of_words.table.shared.table_id in
+    let made = c.in_ok-table.ensures in let key = c.args.key in let table = c.in_ok-table.table.shared.table_id in
     let is : c.as_slice.result.now ≡ words_at_first key = search rules in
     let wide : table.words ≡ key.capacity + key.capacity + 2 = made.0 ∙ (ap length is ∙ first_wide key) in
-    let me = c.in-Ok-of_words.seat.me in (
+    let me = c.in_ok-table.seat.me in (
       made.2,
       omega arith,
-      hands_on _ c.in-Ok-of_words.seat.id me.0 (begun_unmarks_none key table wide me made.4),
+      hands_on _ c.in_ok-table.seat.id me.0 (begun_unmarks_none key table wide me made.4),
     )
 
 pub invariant_of-poll : goal.invariant_of-poll
 invariant_of-poll c =
-    let made = c.in-Ok-of_words.ensures in let split = c.split_seat-other.ensures in let key = c.args.key in
+    let made = c.in_ok-table.ensures in let split = c.split_seat-other.ensures in let key = c.args.key in
     let is : c.as_slice.result.now ≡ words_at_first key = search rules in
     begun_poller key _ (ap (λ t. t.words) (split.0 ∙ made.2) ∙ (made.0 ∙ (ap length is ∙ first_wide key))) _ made.4 _ split.2
 
 pub invariant_of-result : goal.invariant_of-result
 invariant_of-result c =
-    let made = c.in-Ok-of_words.ensures in let key = c.args.key in
+    let made = c.in_ok-table.ensures in let key = c.args.key in
     let is : c.as_slice.result.now ≡ words_at_first key = search rules in
     record {
       words = made.0 ∙ (ap length is ∙ first_wide key);
@@ -38,6 +38,6 @@ invariant_of-result c =
 
 pub invariant_of-result-2 : goal.invariant_of-result-2
 invariant_of-result-2 c =
-    let made = c.in-Ok-of_words.ensures in let split = c.split_seat-other.ensures in let key = c.args.key in
+    let made = c.in_ok-table.ensures in let split = c.split_seat-other.ensures in let key = c.args.key in
     let is : c.as_slice.result.now ≡ words_at_first key = search rules in
     begun_waker key _ (ap (λ t. t.words) (split.3 ∙ made.2) ∙ (made.0 ∙ (ap length is ∙ first_wide key))) _ made.4 _ split.4

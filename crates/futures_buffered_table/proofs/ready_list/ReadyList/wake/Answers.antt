@@ -1,7 +1,7 @@
-use Rattle.std.proofs.Common.{ℕ, [], ◌∷◌, ◌++◌, refl, ap, ◌∙◌, subst}
+use Rattle.std.proofs.Common.{arith, ℕ, [], ◌∷◌, ◌++◌, refl, ap, ◌∙◌, subst}
 use Rattle.futures_buffered_table.proofs.Common.{Fresh, Already, MarkSwap, Role, AddsSteps, IsInRole, Waker}
 use Rattle.futures_buffered_table.proofs.ReadyListLemmas.{in_role, seat_kept}
-use Rattle.futures_buffered_table.proofs.WakingLemmas.{adds_fresh, woken, still_idle, one_found}
+use Rattle.futures_buffered_table.proofs.WakingLemmas.{adds_fresh, woken, still_idle}
 use Rattle.futures_buffered_table.proofs.ready_list.ReadyList.wake.Goals as goal
 
 pub swap_mark-requires : goal.swap_mark-requires
@@ -19,7 +19,7 @@ invariant_of-seat c =
     let sits = subst (λ (r : Role). IsInRole c.args.self.now r now)
     (still_idle c.args.self.now.capacity i c.swap_mark.result c.if-swap_mark-ne0.true) c.swap_mark.ensures.role in
     let adds : AddsSteps mine now (MarkSwap i 1 ∷ []) = subst (λ (k : ℕ). AddsSteps mine now (MarkSwap i k ∷ []))
-    (one_found c.swap_mark.result c.if-swap_mark-ne0.true c.swap_mark.ensures.low) c.swap_mark.ensures.adds in
+    (let a = c.if-swap_mark-ne0.true in let b = c.swap_mark.ensures.low in omega arith) c.swap_mark.ensures.adds in
     woken mine now i (MarkSwap i 1 ∷ []) Already c.seat.invariant (seat_kept _ _ _ c.self.invariant _ c.self.view_is now _ sits) adds refl
 
 pub invariant_of-seat-2 : goal.invariant_of-seat-2

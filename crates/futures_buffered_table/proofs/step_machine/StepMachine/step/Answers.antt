@@ -11,8 +11,7 @@ returns-in_err-seat-clause-placed c = places_slots _
 
 pub touches-word-requires : goal.touches-word-requires
 touches-word-requires c =
-    let read = has_read c.args.step c.self.invariant c.as_slice.ensures.value c.in_ok-seat.ensures c.index-role.ensures in
-    may_touch read
+    may_touch (has_read c.args.step c.self.invariant c.as_slice.ensures.value c.in_ok-seat.ensures c.index-role.ensures)
 
 pub index-found-requires : goal.index-found-requires
 index-found-requires c =
@@ -21,8 +20,7 @@ index-found-requires c =
 
 pub puts-requires : goal.puts-requires
 puts-requires c =
-    let read = has_read c.args.step c.self.invariant c.as_slice.ensures.value c.in_ok-seat.ensures c.index-role.ensures in
-    may_put read
+    may_put (has_read c.args.step c.self.invariant c.as_slice.ensures.value c.in_ok-seat.ensures c.index-role.ensures)
 
 pub index_mut-requires : goal.index_mut-requires
 index_mut-requires c =
