@@ -1,11 +1,10 @@
 -- No mark is lost over a legal schedule: what the wake seats won is what the poll seat unmarked, and what is marked.
-use Rattle.std.proofs.Common.{◌≡◌, ℕ, zero, suc, ◌+◌, List, [], ◌∷◌, ◌++◌, length, get_or, refl, sym, ap, ◌∙◌, subst, arith, ◌<◌, take}
-use Rattle.futures_buffered_table.proofs.Common.{AtomicStep, Phase, Role, Polls, View, Step, Mark, Go, Poll, WAKE_SEATS, total, KeepsRow, is_unmark, is_win, unmarks, wins, next_view, step_of_role, spent_view, CanStep, seat_of, slot_of, Legal, Moment, after_step, at_start, found_at, run, view_at, set_else, set_here, some, some-injective, get_elem?}
+use Rattle.std.proofs.Common.{◌≡◌, ℕ, zero, suc, ◌+◌, List, [], ◌∷◌, length, get_or, sym, ap, ◌∙◌, subst, arith, take}
+use Rattle.futures_buffered_table.proofs.Common.{View, Step, WAKE_SEATS, total, KeepsRow, unmarks, wins, spent_view, Legal, Moment, at_start, run, some, some-injective, get_elem?}
 use Rattle.futures_buffered_table.specs.Tally.{LosesNoMark}
-use Rattle.futures_buffered_table.proofs.RowLemmas.{total-append, total_one}
-use Rattle.futures_buffered_table.proofs.ScheduleLemmas.{IsReachable, reachable_start, step_reaches}
-use Rattle.futures_buffered_table.proofs.ListLemmas.{elem_at, place_low}
-use Rattle.futures_buffered_table.proofs.ViewLemmas.{each_first}
+use Rattle.futures_buffered_table.proofs.RowLemmas.{total_one}
+use Rattle.futures_buffered_table.proofs.ScheduleLemmas.{IsReachable}
+use Rattle.futures_buffered_table.proofs.ListLemmas.{elem_at}
 
 -- a sum over k + 1 terms
 but_last : {X : Type 0} (f : X → ℕ) (xs : List X) (k : ℕ) (d : X) → length xs ≡ suc k → total f xs ≡ total f (take k xs) + f (get_or xs k d)

@@ -1,5 +1,5 @@
 -- A wake seat after a wake.
-use Rattle.std.proofs.Common.{◌≡◌, ℕ, ◌≤◌, List, [], ◌∷◌, refl, ap, ◌∙◌, subst, arith, ◌≢◌}
+use Rattle.std.proofs.Common.{◌≡◌, ℕ, List, [], ◌∷◌, refl, ap, ◌∙◌, subst, arith, ◌≢◌}
 use Rattle.futures_buffered_table.proofs.Common.{Woke, Fresh, AtomicStep, MarkSwap, LinkClear, TailSwap, LinkWrite, Idle, View, is_unmark, unmarks, next_role, AddsSteps, Seat}
 use Rattle.futures_buffered_table.specs.Waking.{IsWake}
 use Rattle.futures_buffered_table.proofs.ReadyListLemmas.{adds_more}

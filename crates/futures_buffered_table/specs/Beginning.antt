@@ -3,7 +3,6 @@
 use Rattle.std.specs.Prelude.{ℕ, zero, suc, ◌+◌, List, [], ◌∷◌, ◌++◌, slice_set, if◌then◌else◌}
 use Rattle.futures_buffered_table.specs.declared.rule.ListKey.{ListKey}
 use Rattle.futures_buffered_table.specs.Types.{AtomicStep, MarkSwap, LinkClear, TailSwap, LinkWrite, Start, Polls, View}
-use Rattle.futures_buffered_table.specs.View.{first_poller}
 use Rattle.futures_buffered_table.specs.Words.{empty_words, tail_at}
 
 -- the entry before slot k if the slots are woken in order: the stub, or the slot before it

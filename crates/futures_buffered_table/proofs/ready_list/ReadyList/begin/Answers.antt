@@ -1,4 +1,4 @@
-use Rattle.std.proofs.Common.{rules, arith, ◌≡◌, ◌+◌, length, ap, sym, ◌∙◌}
+use Rattle.std.proofs.Common.{rules, arith, ◌≡◌, ◌+◌, length, ap, ◌∙◌}
 use Rattle.futures_buffered_table.specs.Beginning.{words_at_first}
 use Rattle.futures_buffered_table.specs.declared.rule.ListKey.{ListKey}
 use Rattle.futures_buffered_table.proofs.BeginningLemmas.{begins, begun_poller, begun_unmarks_none, begun_waker, first_wide, hands_on}
