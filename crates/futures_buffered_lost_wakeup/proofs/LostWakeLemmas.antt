@@ -1,11 +1,8 @@
 -- The steps at the list keep a scene too, and so no wake is lost.
 use Rattle.std.proofs.Common.{◌≡◌, ℕ, zero, suc, ◌<◌, List, [], ◌∷◌, ◌++◌, true, false, map, get_or, refl, sym, ap, ◌∙◌, subst, inl, inr, ⊎_elim, arith, append-nil}
 use Rattle.std.specs.Prelude.{◌==◌, Some, None}
-use Rattle.std.proofs.Math.ListN.{get_or-map}
+use Rattle.futures_buffered_table.proofs.Common.{outside_by, mark, next_role, next_view, reply_of_role, first_poller, new_waker_beside, role_of, spent_view, CanStep, seat_of, slot_of, after_step, found_at, view_at, set_else, set_here, get_or-map, some, some-injective, get_elem?}
 use Rattle.std.proofs.lemmas.Bool.{cases_lt}
-use mathlib.Core.Option.{some, some-injective}
-use lib.ListN.{get_elem?}
-use Rattle.atomic_table.proofs.Lists.{set_else, set_here}
 use Rattle.futures_buffered_table.specs.declared.answer.Taken.TheVariants.{Slot, Empty, Pause}
 use Rattle.futures_buffered_table.specs.declared.answer.Woke.TheVariants.{Fresh}
 use Rattle.futures_buffered_table.specs.declared.step.Step.{Step}
@@ -16,16 +13,10 @@ use Rattle.futures_buffered_table.specs.declared.step.TheConstants.{WAKE_SEATS}
 use Rattle.futures_buffered_table.specs.declared.view.Role.{Role}
 use Rattle.futures_buffered_table.specs.declared.view.Role.TheVariants.{Idle, Won, Cleared, Swapped, Polls}
 use Rattle.futures_buffered_table.specs.declared.view.View.{View}
-use Rattle.futures_buffered_table.specs.Effect.{next_role, next_view, reply_of_role}
-use Rattle.futures_buffered_table.specs.RowInvariant.{outside_by}
-use Rattle.futures_buffered_table.specs.Schedule.{after_step, found_at, view_at}
-use Rattle.futures_buffered_table.specs.Step.{CanStep, seat_of, slot_of}
-use Rattle.futures_buffered_table.specs.View.{first_poller, new_waker_beside, role_of, spent_view}
-use Rattle.futures_buffered_table.specs.Words.{mark}
 use Rattle.futures_buffered_table.proofs.ListLemmas.{by_test, elem_at, last_at, place_low}
-use Rattle.futures_buffered_table.proofs.RowLemmas.{answered_by, put_by, row_slots, total_none}
+use Rattle.futures_buffered_table.proofs.RowLemmas.{in_hand, put_by, row_slots, total_none}
 use Rattle.futures_buffered_table.proofs.ScheduleLemmas.{IsReachable, pending, reachable_start, step_reaches}
-use Rattle.futures_buffered_table.proofs.ScheduleLawLemmas.{IsPolls, role_polls}
+use Rattle.futures_buffered_table.proofs.EffectLemmas.{IsPolls, role_polls}
 use Rattle.futures_buffered_lost_wakeup.specs.Agents.{Rests, Looks, Turn, Parked, Registers, Asks, Met, Sibling, Away, Writes, LetsGo}
 use Rattle.futures_buffered_lost_wakeup.specs.Scene.{Scene, Stage, Vacant, Lent, ASibling, Event, InList, WakeDoes, PollerDoes, SiblingDoes, WakeWakes, PollerWakes, SiblingWakes, FromSibling}
 use Rattle.futures_buffered_lost_wakeup.specs.Scene.{Begin, KeepOwn, Lacks, Misses, Stop, MakesSibling, AllRest, CanDo, IsAtStart, IsAtStub, IsBetween, Legal, NoWakeIsLost, after, after_reply, first, owner, poller_role, run, with_errand}
@@ -52,9 +43,9 @@ module _ (n : ℕ) (s : Scene) (kept : IsKept n s) (step : Step) (low : seat_of 
   still_swaps not_here swaps = grind (arith, there, set_else)
 
   -- a step that puts nothing in
-  seen_still : put_by (view_at s.list step).role ≡ [] → answered_by (view_at s.list step).role ≡ [] → (IsSwapped (view_at s.list step).role → ⊥)
+  seen_still : put_by (view_at s.list step).role ≡ [] → in_hand (view_at s.list step).role ≡ [] → (IsSwapped (view_at s.list step).role → ⊥)
       → (on : IsReachable n (after_step n s.list step))
-      → pending n s.list kept.reach ++ put_by (view_at s.list step).role ≡ answered_by (view_at s.list step).role ++ pending n (after_step n s.list step) on
+      → pending n s.list kept.reach ++ put_by (view_at s.list step).role ≡ in_hand (view_at s.list step).role ++ pending n (after_step n s.list step) on
       → Seen n (record s { list = after_step n s.list step }) on
   seen_still no_put no_answer not_swapped on flow parked asleep = grind (arith, pending, append-nil, still_swaps)
 
@@ -108,11 +99,11 @@ module _ (n : ℕ) (s : Scene) (kept : IsKept n s) (step : Step) (low : seat_of 
       })
 
   by_role : (role : Role) (found : ℕ) → (view_at s.list step).role ≡ role → (on : IsReachable n (after_step n s.list step))
-      → pending n s.list kept.reach ++ put_by (view_at s.list step).role ≡ answered_by (view_at s.list step).role ++ pending n (after_step n s.list step) on
+      → pending n s.list kept.reach ++ put_by (view_at s.list step).role ≡ in_hand (view_at s.list step).role ++ pending n (after_step n s.list step) on
       → Goes (reply_of_role n role found)
-  by_role Idle zero is on flow = listed_kept on (seen_still (ap put_by is) (ap answered_by is) (λ w. subst IsSwapped is w) on flow)
-  by_role Idle (suc k) is on flow = listed_kept on (seen_still (ap put_by is) (ap answered_by is) (λ w. subst IsSwapped is w) on flow)
-  by_role (Won e) found is on flow = listed_kept on (seen_still (ap put_by is) (ap answered_by is) (λ w. subst IsSwapped is w) on flow)
+  by_role Idle zero is on flow = listed_kept on (seen_still (ap put_by is) (ap in_hand is) (λ w. subst IsSwapped is w) on flow)
+  by_role Idle (suc k) is on flow = listed_kept on (seen_still (ap put_by is) (ap in_hand is) (λ w. subst IsSwapped is w) on flow)
+  by_role (Won e) found is on flow = listed_kept on (seen_still (ap put_by is) (ap in_hand is) (λ w. subst IsSwapped is w) on flow)
   by_role (Cleared e) found is on flow = puts_in e is on
   by_role (Swapped e p) found is on flow = arrives on
   by_role (Polls h phase) found is on flow = absurd (no_poller (subst IsPolls (sym is) tt))
@@ -151,7 +142,7 @@ module _ (n : ℕ) (s : Scene) (kept : IsKept n s) (asks : s.turn ≡ Asks) (lai
   none_pending empty = grind (arith, poll_there, empty_at_stub, none_at_stub)
 
   ends_empty : (on : IsReachable n (after_step n s.list Poll))
-      → pending n s.list kept.reach ++ put_by (view_at s.list Poll).role ≡ answered_by (view_at s.list Poll).role ++ pending n (after_step n s.list Poll) on
+      → pending n s.list kept.reach ++ put_by (view_at s.list Poll).role ≡ in_hand (view_at s.list Poll).role ++ pending n (after_step n s.list Poll) on
       → IsTaken (reply_of_role n (view_at s.list Poll).role (found_at n s.list Poll)) → IsEmpty (reply_of_role n (view_at s.list Poll).role (found_at n s.list Poll))
       → IsKept n (record s { list = after_step n s.list Poll; turn = Parked })
   ends_empty on flow taken empty =
@@ -183,7 +174,7 @@ module _ (n : ℕ) (s : Scene) (kept : IsKept n s) (asks : s.turn ≡ Asks) (lai
   }
 
   by_reply : (reply : StepReply) → reply_of_role n (view_at s.list Poll).role (found_at n s.list Poll) ≡ reply → (on : IsReachable n (after_step n s.list Poll))
-      → pending n s.list kept.reach ++ put_by (view_at s.list Poll).role ≡ answered_by (view_at s.list Poll).role ++ pending n (after_step n s.list Poll) on
+      → pending n s.list kept.reach ++ put_by (view_at s.list Poll).role ≡ in_hand (view_at s.list Poll).role ++ pending n (after_step n s.list Poll) on
       → IsKept n (after_reply WAKE_SEATS reply (record s { list = after_step n s.list Poll }))
   by_reply More is on flow = goes_on on
   by_reply (Woke how) is on flow = absurd (polls_wake_none n (view_at s.list Poll).role (found_at n s.list Poll) poll_role (subst IsWoke (sym is) tt))

@@ -1,10 +1,9 @@
 -- Errands by their seats, and what a poller's role and its replies say of the row.
-use Rattle.std.proofs.Common.{◌≡◌, ◌≢◌, ℕ, ◌<◌, List, [], ◌∷◌, ◌++◌, ltb, get_or, refl, sym, ap, ◌∙◌, inl, inr, arith}
+use Rattle.std.proofs.Common.{◌≡◌, ◌≢◌, ℕ, ◌<◌, List, [], ◌∷◌, ◌++◌, get_or, refl, sym, ap, ◌∙◌, inl, inr, arith}
 use Rattle.std.specs.Prelude.{◌==◌, if◌then◌else◌}
 use Rattle.std.proofs.lemmas.Bool.{cases_lt}
 use Rattle.std.proofs.lemmas.Bool.Decides.{nat_tests}
-use mathlib.Core.Option.{some}
-use lib.ListN.{get_elem?}
+use Rattle.futures_buffered_table.proofs.Common.{times, KeepsRow, next_role, reply_of_role, word_of_role, some, get_elem?}
 use Rattle.futures_buffered_table.specs.declared.answer.Taken.TheVariants.{Empty}
 use Rattle.futures_buffered_table.specs.declared.step.StepReply.{StepReply}
 use Rattle.futures_buffered_table.specs.declared.step.StepReply.TheVariants.{Woke, Taken}
@@ -14,12 +13,8 @@ use Rattle.futures_buffered_table.specs.declared.view.Phase.{Phase}
 use Rattle.futures_buffered_table.specs.declared.view.Role.{Role}
 use Rattle.futures_buffered_table.specs.declared.view.Role.TheVariants.{Polls}
 use Rattle.futures_buffered_table.specs.declared.view.View.{View}
-use Rattle.futures_buffered_table.specs.Effect.{next_role, reply_of_role, word_of_role}
-use Rattle.futures_buffered_table.specs.Row.{times}
-use Rattle.futures_buffered_table.specs.RowInvariant.{KeepsRow}
-use Rattle.futures_buffered_table.proofs.ListLemmas.{if_no, if_yes}
-use Rattle.futures_buffered_table.proofs.RowLemmas.{alone, answered_by, in_hand, put_by, row_slots, same_else, slots_slot, slots_stub}
-use Rattle.futures_buffered_table.proofs.ScheduleLawLemmas.{IsPolls}
+use Rattle.futures_buffered_table.proofs.RowLemmas.{alone, in_hand, put_by, row_slots, same_else, slots_slot, slots_stub}
+use Rattle.futures_buffered_table.proofs.EffectLemmas.{IsPolls}
 use Rattle.futures_buffered_lost_wakeup.specs.Agents.{Errand}
 use Rattle.futures_buffered_lost_wakeup.specs.Scene.{IsAtStart, IsAtStub}
 
@@ -28,10 +23,10 @@ abbrev pub set_errand : (ℕ → Errand) → ℕ → Errand → ℕ → Errand
 set_errand errands seat errand other = if other == seat then errand else errands other
 
 pub errand_here : (errands : ℕ → Errand) (seat : ℕ) (errand : Errand) → set_errand errands seat errand seat ≡ errand
-errand_here errands seat errand = if_yes (seat == seat) errand (errands seat) (grind (arith, nat_tests))
+errand_here errands seat errand = grind (arith, nat_tests)
 
 pub errand_else : (errands : ℕ → Errand) (seat : ℕ) (errand : Errand) (other : ℕ) → other ≢ seat → set_errand errands seat errand other ≡ errands other
-errand_else errands seat errand other ne = if_no (other == seat) errand (errands other) (grind (arith, nat_tests))
+errand_else errands seat errand other ne = grind (arith, nat_tests)
 
 -- who has another errand than the seat that goes on keeps it
 pub errand_stays : (errands : ℕ → Errand) (seat : ℕ) (errand : Errand) (other : ℕ) (mine : Errand) → errands seat ≢ mine → errands other ≡ mine → set_errand errands seat errand other ≡ mine
@@ -65,7 +60,7 @@ times_none n e [] lt none = refl
 times_none n e (x ∷ xs) lt none = elim (cases_lt x n) [
   | inl below ↦ let first = slots_slot n x xs below in absurd cc
   | inr past ↦
-      let later : row_slots n (x ∷ xs) ≡ row_slots n xs = if_no (ltb x n) (x ∷ row_slots n xs) (row_slots n xs) (grind (arith, nat_tests)) in
+      let later : row_slots n (x ∷ xs) ≡ row_slots n xs = grind (arith, nat_tests) in
       omega (arith, times_none n e xs lt (sym later ∙ none), same_else e x (λ z. omega arith))
 ]
 
@@ -81,5 +76,5 @@ IsWoke _ = ⊥
 pub polls_wake_none : (n : ℕ) (role : Role) (found : ℕ) → IsPolls role → IsWoke (reply_of_role n role found) → ⊥
 polls_wake_none n role found polls woke = grind arith
 
-pub stub_polls : (role : Role) → IsAtStub role → (put_by role ≡ []) × (answered_by role ≡ [])
+pub stub_polls : (role : Role) → IsAtStub role → (put_by role ≡ []) × (in_hand role ≡ [])
 stub_polls role stub = grind arith
