@@ -14,8 +14,7 @@ use Rattle.futures_buffered_core.specs.ReadySource.{SourceSteps, WaitsAlike}
 use Rattle.futures_buffered_core.specs.SlotMap.{Slots}
 use Rattle.futures_buffered_table.specs.declared.answer.Taken.{Taken}
 use Rattle.futures_buffered_unordered.specs.FuturesUnorderedBounded.{Asks, Bounded, held_in}
-use Rattle.futures_buffered_unordered.specs.Groups.{Groups}
-use Rattle.futures_buffered_unordered.specs.GroupsStep.{next_place}
+use Rattle.futures_buffered_unordered.specs.Groups.{Groups, next_place}
 use Rattle.futures_buffered_unordered.proofs.GroupsStepLemmas.{All-removed, from_none}
 use Rattle.futures_buffered_unordered.specs.FuturesUnordered.{EachCovered}
 use Rattle.futures_buffered_unordered.specs.FuturesUnorderedInvariant.{IsGroup, AllWaitAlike, KeepsGroups, SameKind, KeepsGroup}

@@ -1,5 +1,5 @@
 -- What a set's poll keeps of each group that it asks, what may come from the set, and the set as a stream.
-use Rattle.std.proofs.Common.{◌≡◌, ℕ, Bool, ◌+◌, ◌<◌, ◌↔◌, [], Option, Some, None, IfSome, refl, sym, subst, arith}
+use Rattle.std.proofs.Common.{◌≡◌, ℕ, Bool, false, ◌+◌, ◌<◌, ◌↔◌, [], length, Option, Some, None, IfSome, refl, sym, ap, subst, arith}
 use Rattle.futures.specs.Poll.{IfReady, OnPending}
 use Rattle.futures.specs.Runs.{After, Within}
 use Rattle.futures.specs.declared.task.context.Context.{Context}
@@ -9,18 +9,19 @@ use Rattle.futures_buffered_core.specs.ReadySource.{WaitsAlike, SourceSteps}
 use Rattle.futures_buffered_core.specs.SlotMap.{slot_count}
 use Rattle.futures_buffered_table.specs.declared.answer.Taken.{Taken}
 use Rattle.futures_buffered_unordered.specs.Held.{AnyMayGive}
-use Rattle.futures_buffered_unordered.specs.FuturesUnorderedBounded.{Bounded, PollAsks, PollGives, held_in}
-use Rattle.futures_buffered_unordered.specs.Groups.{Groups, GroupsGive, outputs_in}
+use Rattle.futures_buffered_unordered.specs.FuturesUnorderedBounded.{Bounded, PollGives, held_in}
+use Rattle.futures_buffered_unordered.specs.Groups.{AsksInTurn, Groups, outputs_in}
 use Rattle.futures_buffered_unordered.proofs.HeldGivesLemmas.{Gathers-Within, Gathers-After}
 use Rattle.futures_buffered_unordered.proofs.FuturesUnorderedBoundedLemmas.{poll_counted, poll_pending_holds, poll_end_is_empty, poll_gave, poll_still}
 use Rattle.futures_buffered_unordered.specs.FuturesUnordered.{AnyNeeds, EachHeld, Growing, held_in_all}
-use Rattle.futures_buffered_unordered.specs.PollsBounded.{PollOneOf, ReadySourceOf}
+use Rattle.futures_buffered_unordered.specs.PollsBounded.{PollOneOf, PollsBounded, ReadySourceOf, unless_registered}
 use Rattle.futures_buffered_unordered.specs.PollsGrowing.{PollsGrowing}
 use Rattle.futures_buffered_unordered.specs.StreamAnswers.{StreamAnswers, stream_of}
 use Rattle.futures_buffered_unordered.specs.FuturesUnorderedInvariant.{KeepsGroup}
 use Rattle.futures_buffered_unordered.specs.FuturesUnordered.{AnyGroupMayGive, ComesFromGroups}
 use Rattle.futures_buffered_unordered.proofs.FuturesUnorderedInvariantLemmas.{alike_asked, alike_self}
-use Rattle.futures_buffered_unordered.proofs.FuturesUnorderedPollLemmas.{any_left, any_output, ends_none_held, groups_counted, still_held}
+use Rattle.futures_buffered_unordered.proofs.GroupsLemmas.{Weighs, turns_any, turns_output, turns_sum, turns_weigh}
+use Rattle.futures_buffered_unordered.proofs.PollsBoundedLemmas.{gives_of}
 use Rattle.futures_buffered_unordered.proofs.StreamAnswersLemmas.{answers_of}
 
 module _ {F A S : Type 0} (needs : S → ℕ → Type 0) (polled : ℕ → F → Poll A → F → Type 0) (steps : SourceSteps S)
@@ -38,56 +39,71 @@ module _ {F A S : Type 0} (needs : S → ℕ → Type 0) (polled : ℕ → F →
       let empty = poll_end_is_empty polled steps old new in
       record { fewer = omega (arith, poll_counted polled steps old new answer h); pending_holds = grind arith; ended_is_empty = grind arith; same_kind = record { same_slots = slots; same_limit = limit; waits = alike_polled old new answer h } }
 
-module _ {F A S : Type 0} (polled : ℕ → F → Poll A → F → Type 0) (steps : SourceSteps S) where
-  -- one poll of a group, where it does not matter whether it stopped
-  pub asked_gives : (stopped : Bool) (old new : Bounded F S) (answer : Poll (Option A)) → PollAsks polled steps stopped old answer new → PollGives polled steps old answer new
-  asked_gives stopped old new (Ready o) h = h.0
-  asked_gives stopped old new Pending h = let asks = h.1 in (h.0, (asks.0, asks.1, asks.2, asks.4, asks.5))
+module _ {R F W A S : Type 0} (rule : PollOneOf R F W A) (source : ReadySourceOf S W) where
+  -- how a set polls a group
+  abbrev pub PollsOneGroup : Bool → Bounded F S → Poll (Option A) → Bounded F S → Context → Context → Type 0
+  PollsOneGroup is_registered = PollsBounded rule (unless_registered is_registered source)
 
-  counted : (stopped : Bool) (old new : Bounded F S) (answer : Poll (Option A)) → PollAsks polled steps stopped old answer new → held_in new + outputs_in answer ≡ held_in old
-  counted stopped old new answer h = poll_counted polled steps old new answer (asked_gives stopped old new answer h)
+  -- one poll of a group, told of the group alone
+  pub group_gives : (b : Bool) (old new : Bounded F S) (answer : Poll (Option A)) (cx left : Context) → PollsOneGroup b old answer new cx left → PollGives rule.polled (unless_registered b source).steps old answer new
+  group_gives b old new answer cx left it = gives_of rule (unless_registered b source) (unless_registered b source).steps.registers (λ s t h. h) old new answer cx left it
 
-  pending_holds : (stopped : Bool) (old new : Bounded F S) → PollAsks polled steps stopped old Pending new → 0 < held_in new
-  pending_holds stopped old new h = poll_pending_holds polled steps old new (asked_gives stopped old new Pending h)
+  counted : (b : Bool) (old new : Bounded F S) (answer : Poll (Option A)) (cx left : Context) → PollsOneGroup b old answer new cx left → held_in new + outputs_in answer ≡ held_in old
+  counted b old new answer cx left it = poll_counted rule.polled (unless_registered b source).steps old new answer (group_gives b old new answer cx left it)
 
-  ended_empty : (stopped : Bool) (old new : Bounded F S) → PollAsks polled steps stopped old (Ready None) new → held_in new ≡ 0
-  ended_empty stopped old new h = poll_end_is_empty polled steps old new h.0
+  pending_holds : (b : Bool) (old new : Bounded F S) (cx left : Context) → PollsOneGroup b old Pending new cx left → 0 < held_in new
+  pending_holds b old new cx left it = omega (arith, it.gave.0, it.same)
 
-  module _ (old new : Groups (Bounded F S)) (stopped : Bool) where
+  ended_empty : (b : Bool) (old new : Bounded F S) (cx left : Context) → PollsOneGroup b old (Ready None) new cx left → held_in new ≡ 0
+  ended_empty b old new cx left it = omega (arith, it.gave.0, ap (λ (g : Bounded F S). held_in g) it.gave.1)
+
+  module _ (old new : Groups (Bounded F S)) (cx left : Context) where
+    -- one poll of the groups
+    abbrev pub PollsTurns : Poll (Option A) → Type 0
+    PollsTurns answer = AsksInTurn PollsOneGroup (length old.listed) false old answer new cx left
+
     -- as many futures as before, except that of an output
-    pub count_of : (answer : Poll (Option A)) → GroupsGive (PollAsks polled steps) old answer stopped new → held_in_all new.listed + outputs_in answer ≡ held_in_all old.listed
-    count_of answer h = groups_counted (PollAsks polled steps) ended_empty pending_holds counted old new stopped answer h
+    pub count_of : (answer : Poll (Option A)) → PollsTurns answer → held_in_all new.listed + outputs_in answer ≡ held_in_all old.listed
+    count_of answer h = turns_sum PollsOneGroup held_in outputs_in counted ended_empty refl refl _ _ old answer new cx left h
+
+    left_of : (answer : Poll (Option A)) → PollsTurns answer → Weighs {A = A} PollsOneGroup held_in ended_empty pending_holds answer (held_in_all new.listed)
+    left_of answer h = turns_weigh PollsOneGroup held_in ended_empty pending_holds old answer new cx left h
+
+    pub held_of : (answer : Poll (Option A)) → PollsTurns answer → OnPending answer (0 < held_in_all new.listed)
+    held_of (Ready o) h = tt
+    held_of Pending h = left_of Pending h
 
     -- the answer is the end where no future was held
-    pub ends_of : (answer : Poll (Option A)) → GroupsGive (PollAsks polled steps) old answer stopped new → (answer ≡ Ready None) ↔ (held_in_all old.listed ≡ 0)
-    ends_of answer h = ends_none_held (PollAsks polled steps) ended_empty pending_holds counted old new stopped answer h
+    pub ends_of : (answer : Poll (Option A)) → PollsTurns answer → (answer ≡ Ready None) ↔ (held_in_all old.listed ≡ 0)
+    ends_of (Ready None) h = (λ _. omega (arith, count_of (Ready None) h, left_of (Ready None) h), λ _. refl)
+    ends_of (Ready (Some x)) h = (λ e. absurd (cc e), λ none. absurd (omega (arith, none, count_of (Ready (Some x)) h)))
+    ends_of Pending h = (λ e. absurd (cc e), λ none. absurd (omega (arith, none, count_of Pending h, left_of Pending h)))
 
-    pub held_of : (answer : Poll (Option A)) → GroupsGive (PollAsks polled steps) old answer stopped new → OnPending answer (0 < held_in_all new.listed)
-    held_of answer h = still_held (PollAsks polled steps) ended_empty pending_holds old new stopped answer h
+    pub still : (answer : Poll (Option A)) → PollsTurns answer → (y : A) → AnyGroupMayGive rule.polled new.listed y → AnyGroupMayGive rule.polled old.listed y
+    still answer h y any =
+        turns_any PollsOneGroup (λ (g : Bounded F S). AnyMayGive rule.polled g.slots y) (λ b group after a c d asked. poll_still rule.polled (unless_registered b source).steps y group after a (group_gives b group after a c d asked)) _ _ old answer new cx left h any
 
-    pub still : (answer : Poll (Option A)) → GroupsGive (PollAsks polled steps) old answer stopped new → (y : A) → AnyGroupMayGive polled new.listed y → AnyGroupMayGive polled old.listed y
-    still answer h y any = any_left (PollAsks polled steps) (λ (g : Bounded F S). AnyMayGive polled g.slots y) (λ b group left a asked. poll_still polled steps y group left a (asked_gives b group left a asked)) old answer stopped new h any
+    pub gave : (x : A) → PollsTurns (Ready (Some x)) → AnyGroupMayGive rule.polled old.listed x
+    gave x h =
+        turns_output PollsOneGroup (λ (g : Bounded F S). AnyMayGive rule.polled g.slots x) (λ b group after a c d asked. poll_still rule.polled (unless_registered b source).steps x group after a (group_gives b group after a c d asked)) x (λ b group after c d asked. poll_gave rule.polled (unless_registered b source).steps x group after (group_gives b group after (Ready (Some x)) c d asked)) _ _ old new cx left h
 
-    pub gave : (x : A) → GroupsGive (PollAsks polled steps) old (Ready (Some x)) stopped new → AnyGroupMayGive polled old.listed x
-    gave x h = any_output (PollAsks polled steps) (λ (g : Bounded F S). AnyMayGive polled g.slots x) old new stopped x h (λ b group left asked. poll_gave polled steps x group left asked.0)
-
-    pub value_of : (answer : Poll (Option A)) → GroupsGive (PollAsks polled steps) old answer stopped new → IfReady answer (ComesFromGroups polled old.listed [])
+    pub value_of : (answer : Poll (Option A)) → PollsTurns answer → IfReady answer (ComesFromGroups rule.polled old.listed [])
     value_of (Ready None) h = record { each = tt; ends = sym ((ends_of (Ready None) h).0 refl) }
     value_of (Ready (Some x)) h = record { each = tt; ends = (gave x h, omega (arith, count_of (Ready (Some x)) h)) }
     value_of Pending h = tt
 
-    pub rest_of : (answer : Poll (Option A)) → GroupsGive (PollAsks polled steps) old answer stopped new → IfReady answer (λ o. IfSome o (λ x. After (ComesFromGroups polled old.listed) x (ComesFromGroups polled new.listed)))
+    pub rest_of : (answer : Poll (Option A)) → PollsTurns answer → IfReady answer (λ o. IfSome o (λ x. After (ComesFromGroups rule.polled old.listed) x (ComesFromGroups rule.polled new.listed)))
     rest_of (Ready None) h = tt
-    rest_of (Ready (Some x)) h = Gathers-After {A = A} {P = AnyGroupMayGive polled old.listed} {Q = AnyGroupMayGive polled new.listed} (still (Ready (Some x)) h) _ _ x (count_of (Ready (Some x)) h) (gave x h)
+    rest_of (Ready (Some x)) h = Gathers-After {A = A} {P = AnyGroupMayGive rule.polled old.listed} {Q = AnyGroupMayGive rule.polled new.listed} (still (Ready (Some x)) h) _ _ x (count_of (Ready (Some x)) h) (gave x h)
     rest_of Pending h = tt
 
-    pub same_of : (answer : Poll (Option A)) → GroupsGive (PollAsks polled steps) old answer stopped new → OnPending answer (Within (ComesFromGroups polled old.listed) (ComesFromGroups polled new.listed))
+    pub same_of : (answer : Poll (Option A)) → PollsTurns answer → OnPending answer (Within (ComesFromGroups rule.polled old.listed) (ComesFromGroups rule.polled new.listed))
     same_of (Ready o) h = tt
-    same_of Pending h = Gathers-Within {A = A} {P = AnyGroupMayGive polled old.listed} {Q = AnyGroupMayGive polled new.listed} (still Pending h) _ _ (omega (arith, count_of Pending h))
+    same_of Pending h = Gathers-Within {A = A} {P = AnyGroupMayGive rule.polled old.listed} {Q = AnyGroupMayGive rule.polled new.listed} (still Pending h) _ _ (omega (arith, count_of Pending h))
 
--- what `futures` asks of a poll of the set
-pub answers_as_stream : {R F W A S : Type 0} (rule : PollOneOf R F W A) (source : ReadySourceOf S W) (old new : Growing F S) (answer : Poll (Option A)) (cx left : Context) → PollsGrowing rule source old answer new cx left
-    → StreamAnswers (stream_of (λ set. EachHeld rule.can_poll set.groups.listed) (λ set. AnyNeeds source.needs set.groups.listed) (λ set. ComesFromGroups rule.polled set.groups.listed)) old answer new cx left
-answers_as_stream rule source old new answer cx left it =
-    let gave = it.groups.gave in
-    answers_of _ old new answer cx left (value_of rule.polled source.steps _ _ _ answer gave) (rest_of rule.polled source.steps _ _ _ answer gave) (same_of rule.polled source.steps _ _ _ answer gave) it.groups.pollable it.registered it.groups.kept
+  -- what `futures` asks of a poll of the set
+  pub answers_as_stream : (old new : Growing F S) (answer : Poll (Option A)) (cx left : Context) → PollsGrowing rule source old answer new cx left
+      → StreamAnswers (stream_of (λ set. EachHeld rule.can_poll set.groups.listed) (λ set. AnyNeeds source.needs set.groups.listed) (λ set. ComesFromGroups rule.polled set.groups.listed)) old answer new cx left
+  answers_as_stream old new answer cx left it =
+      let gave = it.groups.gave in
+      answers_of _ old new answer cx left (value_of _ _ cx left answer gave) (rest_of _ _ cx left answer gave) (same_of _ _ cx left answer gave) it.groups.pollable it.registered it.groups.kept

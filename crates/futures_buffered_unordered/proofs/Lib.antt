@@ -6,12 +6,8 @@ pub mod FuturesUnorderedBoundedLemmas
 pub mod PollsBoundedLemmas
 pub mod GroupsLemmas
 pub mod GroupsStepLemmas
-pub mod GroupsRoundLemmas
-pub mod GroupsPollLemmas
-pub mod GroupsTaskLemmas
 pub mod FuturesUnorderedInvariantLemmas
 pub mod FuturesUnorderedLemmas
-pub mod FuturesUnorderedPollLemmas
 pub mod FuturesUnorderedStreamLemmas
 pub mod SlotStreamLemmas
 pub mod MergeBoundedLemmas

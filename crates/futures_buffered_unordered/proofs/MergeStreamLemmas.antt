@@ -26,4 +26,4 @@ module _ {St W A S : Type 0} (stream : SlotStreamOf St W A) (source : ReadySourc
       → StreamAnswers (stream_of (λ merge. EachHeld stream.can_poll merge.groups.listed) (λ merge. AnyNeeds source.needs merge.groups.listed) (λ merge. ItemsComeFromGroups stream.polled merge.groups.listed)) old answer new cx left
   growing_answers old new answer cx left it =
       let gave = it.groups.gave in
-      answers_of _ old new answer cx left (group_value stream.polled source.steps source.marks _ _ _ answer gave) (group_rest stream.polled source.steps source.marks _ _ _ answer gave) (group_same stream.polled source.steps source.marks _ _ _ answer gave) it.groups.pollable it.registered it.groups.kept
+      answers_of _ old new answer cx left (group_value stream source _ _ cx left answer gave) (group_rest stream source _ _ cx left answer gave) (group_same stream source _ _ cx left answer gave) it.groups.pollable it.registered it.groups.kept

@@ -1,26 +1,25 @@
 -- What the groups of a merge give over many polls.
-use Rattle.std.proofs.Common.{◌≡◌, ◌⊎◌, ℕ, Bool, true, false, cond, MatchOption, List, [], ◌∷◌, ◌++◌, Option, Some, None, refl, sym, ap, subst, inl, inr, arith, append-nil, ◌∙◌}
-use Rattle.std.specs.Prelude.{⊤, flat_map}
-use Rattle.std.specs.List.{AllZip, AllByRecursion}
-use Rattle.std.specs.Option.{option_to_list}
-use Rattle.std.proofs.lemmas.Grind.{flat_map-append}
+use Rattle.std.proofs.Common.{◌≡◌, ◌⊎◌, ℕ, zero, suc, ◌+◌, Bool, true, false, List, [], ◌∷◌, ◌++◌, take, drop, Option, Some, None, refl, sym, ap, subst, inl, inr, append-nil}
+use Rattle.std.proofs.lemmas.List.{map-append}
 use Rattle.std.proofs.lemmas.List.Elements.{filter_map-append}
+use Rattle.futures.specs.declared.task.context.Context.{Context}
 use Rattle.futures.specs.declared.task.Poll.{Poll}
 use Rattle.futures.specs.declared.task.Poll.TheVariants.{Ready, Pending}
-use Rattle.futures_buffered_table.specs.declared.answer.Woke.{Woke}
-use Rattle.futures_buffered_core.specs.ReadySource.{SourceSteps}
 use Rattle.futures_buffered_core.specs.SlotMap.{Slots}
+use Rattle.futures_buffered_core.specs.declared.ready_source.ReadySource.{Ghosts as ReadySourceOf}
 use Rattle.futures_buffered_unordered.specs.FuturesUnorderedBounded.{Bounded}
-use Rattle.futures_buffered_unordered.specs.Groups.{Groups, Turn, AsksLast, AsksAll, ended, is_end, staying, NoOutput}
+use Rattle.futures_buffered_unordered.specs.FuturesUnordered.{Growing}
+use Rattle.futures_buffered_unordered.specs.Groups.{AsksInTurn, AsksOne, Groups, LeavesBetween, next_place}
+use Rattle.futures_buffered_unordered.specs.PollsBounded.{unless_registered}
 use Rattle.futures_buffered_unordered.specs.SlotStream.{item_of, items_in}
-use Rattle.futures_buffered_unordered.specs.Merging.{MergeAsks}
+use Rattle.futures_buffered_unordered.specs.StreamAnswers.{OfSomeTask}
+use Rattle.futures_buffered_unordered.specs.Merging.{SlotStreamOf}
 use Rattle.futures_buffered_unordered.specs.MergeBounded.{SlotsGaveInTurn}
 use Rattle.futures_buffered_unordered.specs.Interleaves.{Interleaves}
-use Rattle.futures_buffered_unordered.specs.MergeUnbounded.{HoldsNone, GroupsGaveInTurn, GroupsPolled, KeepsOrderInGroups, slots_of_each}
-use Rattle.futures_buffered_unordered.proofs.FuturesUnorderedPollLemmas.{IsQuiet, among_quiet, last_turn}
+use Rattle.futures_buffered_unordered.specs.MergeUnbounded.{HoldsNone, GroupsGaveInTurn, KeepsOrderInGroups, PollsMergeUnbounded, slots_of_each}
 use Rattle.futures_buffered_unordered.proofs.MergeBoundedLemmas.{end_gave, polled_gave}
 use Rattle.futures_buffered_unordered.proofs.MergeBoundedPushesLemmas.{turns_none, turns_on}
-use Rattle.futures_buffered_unordered.proofs.GroupsLemmas.{TakesTurn}
+use Rattle.futures_buffered_unordered.proofs.MergeUnboundedLemmas.{PollsOneMerge, merge_gives}
 
 -- the items of one list, and then those of the other
 pub interleaves_append : {A : Type 0} (xs ys : List A) → Interleaves xs ys (xs ++ ys)
@@ -38,6 +37,15 @@ module _ {F A : Type 0} (polled : ℕ → F → Poll (Option A) → F → Type 0
   pub groups_none : (groups : List (Slots F)) → GroupsGaveInTurn polled groups [] [] groups
   groups_none [] = (refl, refl, refl)
   groups_none (group ∷ groups) = (group, [], [], turns_none polled group, [], [], groups, groups_none groups, (refl, refl), (refl, refl), inl refl)
+
+  -- the group between `earlier` and `later` gave these items, and stays, or holds no stream and leaves
+  groups_between : (earlier later : List (Slots F)) (group left : Slots F) (items : List A) → SlotsGaveInTurn polled group items [] left → GroupsGaveInTurn polled (earlier ++ group ∷ later) items [] (earlier ++ left ∷ later)
+  groups_between [] later group left items turn = (left, items, [], turn, [], [], later, groups_none later, rw append-nil at (interleaves_append items []), (refl, refl), inl refl)
+  groups_between (first ∷ earlier) later group left items turn = (first, [], [], turns_none polled first, items, [], earlier ++ left ∷ later, groups_between earlier later group left items turn, interleaves_append [] items, (refl, refl), inl refl)
+
+  groups_leave : (earlier later : List (Slots F)) (group left : Slots F) → SlotsGaveInTurn polled group [] [] left → HoldsNone left → GroupsGaveInTurn polled (earlier ++ group ∷ later) [] [] (earlier ++ later)
+  groups_leave [] later group left turn none = (left, [], [], turn, [], [], later, groups_none later, (refl, refl), (refl, refl), inr (refl, none))
+  groups_leave (first ∷ earlier) later group left turn none = (first, [], [], turns_none polled first, [], [], earlier ++ later, groups_leave earlier later group left turn none, (refl, refl), (refl, refl), inl refl)
 
   -- what was given and pushed first, and then what was given and pushed later, where `on` says so of the groups behind the first one
   first_on : (group : Slots F) (groups mid added new : List (Slots F)) (first items : List A) (before streams : List F) → GroupsGaveInTurn polled (group ∷ groups) first before mid → GroupsGaveInTurn polled (mid ++ added) items streams new
@@ -81,66 +89,60 @@ module _ {F A : Type 0} (polled : ℕ → F → Poll (Option A) → F → Type 0
   groups_on (group ∷ groups) mid added new first items before streams h k =
       first_on group groups mid added new first items before streams h k (λ listed behind others more into elsewhere a b. groups_on groups listed added behind others more into elsewhere a b)
 
-module _ {F A S : Type 0} (polled : ℕ → F → Poll (Option A) → F → Type 0) (steps : SourceSteps S) (marks : S → ℕ → Woke → S → Type 0) where
-  -- the items of one turn, and of all turns
-  abbrev turn_items : Turn (Bounded F S) A → List A
-  turn_items turn = items_in (option_to_list turn.answer)
+module _ {St W A S : Type 0} (stream : SlotStreamOf St W A) (source : ReadySourceOf S W) where
+  module _ (b : Bool) where
+    -- the turn of one group
+    turn_gave : (group left : Bounded St S) (answer : Poll (Option A)) (cx after : Context) → PollsOneMerge stream source b group answer left cx after → SlotsGaveInTurn stream.polled group.slots (items_in (answer ∷ [])) [] left.slots
+    turn_gave group left answer cx after it =
+        let (given, is, gave) = polled_gave stream.polled (unless_registered b source).steps source.marks group left answer (merge_gives stream source b group left answer cx after it) in
+        (given, [], is, refl, gave)
 
-  quiet_items : (o : Option (Poll (Option A))) → MatchOption o ⊤ NoOutput → items_in (option_to_list o) ≡ []
-  quiet_items o h = grind arith
+    end_none : (group left : Bounded St S) (cx after : Context) → PollsOneMerge stream source b group (Ready None) left cx after → HoldsNone left.slots
+    end_none group left cx after it = (end_gave stream.polled (unless_registered b source).steps source.marks group left (merge_gives stream source b group left (Ready None) cx after it)).0
 
-  quiet_given : (turns : List (Turn (Bounded F S) A)) → AllByRecursion IsQuiet turns → flat_map turn_items turns ≡ []
-  quiet_given [] all = refl
-  quiet_given (t ∷ ts) all = rw (quiet_items t.answer all.0) (quiet_given ts all.1)
+    slots_between : (earlier : List (Bounded St S)) (group : Bounded St S) (later : List (Bounded St S)) → slots_of_each (earlier ++ group ∷ later) ≡ slots_of_each earlier ++ group.slots ∷ slots_of_each later
+    slots_between earlier group later = map-append (λ (g : Bounded St S). g.slots) earlier (group ∷ later)
 
-  -- one turn of one group
-  turn_gave : (group left : Bounded F S) (b : Bool) (o : Option (Poll (Option A))) → MatchOption o ((left ≡ group) × (b ≡ false)) (λ answer. MergeAsks polled steps marks b group answer left) → SlotsGaveInTurn polled group.slots (items_in (option_to_list o)) [] left.slots
-  turn_gave group left b None h = rw h.0 (turns_none polled group.slots)
-  turn_gave group left b (Some answer) h = let (given, is, gave) = polled_gave polled steps marks group left answer (b, h) in (given, [], is, refl, gave)
+    -- the group between `earlier` and `later` was polled
+    between_gave : (earlier later : List (Bounded St S)) (group left : Bounded St S) (answer : Poll (Option A)) (new : Groups (Bounded St S)) (cx after : Context) → PollsOneMerge stream source b group answer left cx after → LeavesBetween earlier later left answer new → GroupsGaveInTurn stream.polled (slots_of_each (earlier ++ group ∷ later)) (items_in (answer ∷ [])) [] (slots_of_each new.listed)
+    between_gave earlier later group left answer new cx after it leaves = by_answer later answer it leaves
+      where
+        kept : (later : List (Bounded St S)) (answer : Poll (Option A)) → PollsOneMerge stream source b group answer left cx after → new.listed ≡ earlier ++ left ∷ later → GroupsGaveInTurn stream.polled (slots_of_each (earlier ++ group ∷ later)) (items_in (answer ∷ [])) [] (slots_of_each new.listed)
+        kept later answer it is = rw (is, slots_between earlier group later, slots_between earlier left later) (groups_between stream.polled (slots_of_each earlier) (slots_of_each later) group.slots left.slots (items_in (answer ∷ [])) (turn_gave group left answer cx after it))
 
-  ended_none : (group left : Bounded F S) (b : Bool) (o : Option (Poll (Option A))) → MatchOption o ((left ≡ group) × (b ≡ false)) (λ answer. MergeAsks polled steps marks b group answer left) → is_end o ≡ true → HoldsNone left.slots
-  ended_none group left b (Some (Ready None)) h e = (end_gave polled steps marks group left (b, h)).0
-  ended_none group left b o h e = grind arith
+        by_answer : (later : List (Bounded St S)) (answer : Poll (Option A)) → PollsOneMerge stream source b group answer left cx after → LeavesBetween earlier later left answer new → GroupsGaveInTurn stream.polled (slots_of_each (earlier ++ group ∷ later)) (items_in (answer ∷ [])) [] (slots_of_each new.listed)
+        by_answer later (Ready (Some x)) it h = kept later (Ready (Some x)) it h.0
+        by_answer later Pending it h = kept later Pending it h.0
+        by_answer [] (Ready None) it h = kept [] (Ready None) it h.0
+        by_answer (next ∷ later) (Ready None) it h =
+            rw (h.0, slots_between earlier group (next ∷ later), slots_between earlier next later) (groups_leave stream.polled (slots_of_each earlier) (slots_of_each (next ∷ later)) group.slots left.slots (turn_gave group left (Ready None) cx after it) (end_none group left cx after it))
 
-  -- the turns of all groups
-  turns_gave : (groups : List (Bounded F S)) (turns : List (Turn (Bounded F S) A)) → AllZip (TakesTurn (MergeAsks polled steps marks)) groups turns → GroupsGaveInTurn polled (slots_of_each groups) (flat_map turn_items turns) [] (slots_of_each (staying turns))
-  turns_gave [] [] zip = (refl, refl, refl)
-  turns_gave (g ∷ []) (t ∷ []) zip =
-      (t.left.slots, turn_items t, [], turn_gave g t.left t.stopped t.answer zip.0, [], [], [], (refl, refl, refl), interleaves_append (turn_items t) [], (refl, refl), inl refl)
-  turns_gave (g ∷ h ∷ gs) (t ∷ u ∷ ts) zip =
-      (t.left.slots, turn_items t, [], turn_gave g t.left t.stopped t.answer zip.0, flat_map turn_items (u ∷ ts), [], slots_of_each (staying (u ∷ ts)), turns_gave (h ∷ gs) (u ∷ ts) zip.1, interleaves_append (turn_items t) (flat_map turn_items (u ∷ ts)), (refl, refl), stays (ended t) refl)
-    where
-      stays : (b : Bool) → ended t ≡ b → (slots_of_each (cond b (staying (u ∷ ts)) (t.left ∷ staying (u ∷ ts))) ≡ t.left.slots ∷ slots_of_each (staying (u ∷ ts))) ⊎ ((slots_of_each (cond b (staying (u ∷ ts)) (t.left ∷ staying (u ∷ ts))) ≡ slots_of_each (staying (u ∷ ts))) × HoldsNone t.left.slots)
-      stays true e = inr (refl, ended_none g t.left t.stopped t.answer zip.0 e)
-      stays false e = inl refl
-  turns_gave groups turns zip = grind arith
+    one_gave : (old : Groups (Bounded St S)) (answer : Poll (Option A)) (new : Groups (Bounded St S)) (cx after : Context) → AsksOne (PollsOneMerge stream source b) old answer new cx after → GroupsGaveInTurn stream.polled (slots_of_each old.listed) (items_in (answer ∷ [])) [] (slots_of_each new.listed)
+    one_gave old answer new cx after one =
+        let p = next_place old in
+        subst (λ (l : List (Bounded St S)). GroupsGaveInTurn stream.polled (slots_of_each l) (items_in (answer ∷ [])) [] (slots_of_each new.listed)) (sym one.stood)
+        (between_gave (take p old.listed) (drop (p + 1) old.listed) one.group one.group_left answer new cx after one.asked one.leaves)
 
-  -- one poll
-  asked_gave : (old new : Groups (Bounded F S)) (stopped : Bool) (turns : List (Turn (Bounded F S) A)) (last : Poll (Option A)) (not_asked : List (ℕ × Turn (Bounded F S) A)) → AsksLast (MergeAsks polled steps marks) old turns last not_asked stopped new → GroupsGaveInTurn polled (slots_of_each old.listed) (items_in (last ∷ [])) [] (slots_of_each new.listed)
-  asked_gave old new stopped turns last not_asked h =
-      let it = among_quiet (MergeAsks polled steps marks) old new stopped turns last not_asked h in
-      let mine = last_turn (MergeAsks polled steps marks) old new stopped turns last not_asked h in
-      let given : flat_map turn_items turns ≡ items_in (last ∷ []) =
-      ap (flat_map turn_items) it.2 ∙ flat_map-append turn_items it.0 (mine ∷ it.1) ∙ ap (λ (l : List A). l ++ (items_in (last ∷ []) ++ flat_map turn_items it.1)) (quiet_given it.0 it.3) ∙ ap (λ (l : List A). items_in (last ∷ []) ++ l) (quiet_given it.1 it.4) ∙ append-nil (items_in (last ∷ [])) in
-      rw h.leaves (subst (λ (l : List A). GroupsGaveInTurn polled (slots_of_each old.listed) l [] (slots_of_each (staying turns))) given (turns_gave old.listed turns h.each))
+  -- what groups gave, and then what they gave later
+  gave_then : (old mid new : Groups (Bounded St S)) (items : List A) → GroupsGaveInTurn stream.polled (slots_of_each old.listed) [] [] (slots_of_each mid.listed) → GroupsGaveInTurn stream.polled (slots_of_each mid.listed) items [] (slots_of_each new.listed) → GroupsGaveInTurn stream.polled (slots_of_each old.listed) items [] (slots_of_each new.listed)
+  gave_then old mid new items first then = rw append-nil at (groups_on stream.polled (slots_of_each old.listed) (slots_of_each mid.listed) [] (slots_of_each new.listed) [] items [] [] first (rw append-nil then))
 
-  all_gave : (old new : Groups (Bounded F S)) (b stopped : Bool) → AsksAll (MergeAsks polled steps marks) old b stopped new → GroupsGaveInTurn polled (slots_of_each old.listed) [] [] (slots_of_each new.listed)
-  all_gave old new b stopped h = subst (λ (l : List A). GroupsGaveInTurn polled (slots_of_each old.listed) l [] (slots_of_each new.listed)) (quiet_items (Some h.1) h.2) (asked_gave old new stopped h.0 h.1 [] h.3)
-
-  pub poll_gave : (old new : Groups (Bounded F S)) (answer : Poll (Option A)) → GroupsPolled polled steps marks old answer new → GroupsGaveInTurn polled (slots_of_each old.listed) (items_in (answer ∷ [])) [] (slots_of_each new.listed)
-  poll_gave old new (Ready (Some x)) (stopped, h) = asked_gave old new stopped h.0 (Ready (Some x)) h.1 h.2
-  poll_gave old new (Ready None) (stopped, inl h) = rw (h.1, h.0) (refl, refl, refl)
-  poll_gave old new (Ready None) (stopped, inr h) = all_gave old new true stopped h
-  poll_gave old new Pending (stopped, h) = all_gave old new false stopped h
+  turns_gave : (n : ℕ) (b : Bool) (old : Groups (Bounded St S)) (answer : Poll (Option A)) (new : Groups (Bounded St S)) (cx after : Context) → AsksInTurn (PollsOneMerge stream source) n b old answer new cx after → GroupsGaveInTurn stream.polled (slots_of_each old.listed) (items_in (answer ∷ [])) [] (slots_of_each new.listed)
+  turns_gave zero true old answer new cx after (e, same, stays) = rw (e, same) (groups_none stream.polled (slots_of_each old.listed))
+  turns_gave zero false old answer new cx after (e, same, stays) = rw (e, same) (groups_none stream.polled (slots_of_each old.listed))
+  turns_gave (suc n) b old answer new cx after (inl (x, e, one)) = one_gave b old answer new cx after one
+  turns_gave (suc n) b old answer new cx after (inr (inl (now, task, one, more))) = gave_then old now new (items_in (answer ∷ [])) (one_gave b old Pending now cx task one) (turns_gave n true now answer new task after more)
+  turns_gave (suc n) b old answer new cx after (inr (inr (now, task, one, more))) = gave_then old now new (items_in (answer ∷ [])) (one_gave b old (Ready None) now cx task one) (turns_gave n b now answer new task after more)
 
   -- one poll, and what came later
-  pub poll_first : (old mid : Groups (Bounded F S)) (added new : List (Slots F)) (answer : Poll (Option A)) (answers : List (Poll (Option A))) (streams : List F) → GroupsPolled polled steps marks old answer mid → GroupsGaveInTurn polled (slots_of_each mid.listed ++ added) (items_in answers) streams new → GroupsGaveInTurn polled (slots_of_each old.listed ++ added) (items_in (answer ∷ answers)) streams new
-  poll_first old mid added new answer answers streams polls later =
-      subst (λ (l : List A). GroupsGaveInTurn polled (slots_of_each old.listed ++ added) l streams new) (sym (filter_map-append item_of (answer ∷ []) answers))
-      (groups_on polled (slots_of_each old.listed) (slots_of_each mid.listed) added new (items_in (answer ∷ [])) (items_in answers) [] streams (poll_gave old mid answer polls) later)
+  pub poll_first : (old mid : Growing St S) (added new : List (Slots St)) (answer : Poll (Option A)) (answers : List (Poll (Option A))) (streams : List St) → OfSomeTask (PollsMergeUnbounded stream source) old answer mid → GroupsGaveInTurn stream.polled (slots_of_each mid.groups.listed ++ added) (items_in answers) streams new → GroupsGaveInTurn stream.polled (slots_of_each old.groups.listed ++ added) (items_in (answer ∷ answers)) streams new
+  poll_first old mid added new answer answers streams (cx, after, polls) later =
+      let gave = turns_gave _ _ old.groups answer mid.groups cx after polls.groups.gave in
+      subst (λ (l : List A). GroupsGaveInTurn stream.polled (slots_of_each old.groups.listed ++ added) l streams new) (sym (filter_map-append item_of (answer ∷ []) answers))
+      (groups_on stream.polled (slots_of_each old.groups.listed) (slots_of_each mid.groups.listed) added new (items_in (answer ∷ [])) (items_in answers) [] streams gave later)
 
   -- many polls
-  pub keeps_order_in_groups : KeepsOrderInGroups polled steps marks
-  keeps_order_in_groups old new [] h = subst (λ (g : Groups (Bounded F S)). GroupsGaveInTurn polled (slots_of_each old.listed) [] [] (slots_of_each g.listed)) h (groups_none polled (slots_of_each old.listed))
+  pub keeps_order_in_groups : KeepsOrderInGroups stream source
+  keeps_order_in_groups old new [] h = subst (λ (g : Growing St S). GroupsGaveInTurn stream.polled (slots_of_each old.groups.listed) [] [] (slots_of_each g.groups.listed)) h (groups_none stream.polled (slots_of_each old.groups.listed))
   keeps_order_in_groups old new (answer ∷ answers) h =
-      rw append-nil at (poll_first old h.0 [] (slots_of_each new.listed) answer answers [] h.1 (rw append-nil (keeps_order_in_groups h.0 new answers h.2)))
+      rw append-nil at (poll_first old h.0 [] (slots_of_each new.groups.listed) answer answers [] h.1 (rw append-nil (keeps_order_in_groups h.0 new answers h.2)))

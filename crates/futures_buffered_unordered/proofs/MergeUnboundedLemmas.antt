@@ -1,5 +1,5 @@
 -- What one poll makes of the groups of a merge.
-use Rattle.std.proofs.Common.{◌≡◌, ℕ, Bool, ◌<◌, ◌↔◌, List, [], ◌∷◌, Option, Some, None, IfSome, IfNone, sym, ap, subst, arith, ◌∙◌}
+use Rattle.std.proofs.Common.{◌≡◌, ℕ, Bool, true, false, ◌<◌, ◌↔◌, List, [], ◌∷◌, length, Option, Some, None, IfSome, refl, sym, subst, arith}
 use Rattle.std.specs.List.{FoldsTo}
 use Rattle.futures.specs.Poll.{IfReady, OnPending}
 use Rattle.futures.specs.Runs.{After, Within}
@@ -7,21 +7,17 @@ use Rattle.futures.specs.declared.task.context.Context.{Context}
 use Rattle.futures.specs.declared.task.Poll.{Poll}
 use Rattle.futures.specs.declared.task.Poll.TheVariants.{Ready, Pending}
 use Rattle.futures_buffered_core.specs.ReadySource.{WaitsAlike, SourceSteps}
-use Rattle.futures_buffered_core.specs.SlotMap.{held_count}
 use Rattle.futures_buffered_core.specs.declared.ready_source.ReadySource.{Ghosts as ReadySourceOf}
 use Rattle.futures_buffered_table.specs.declared.answer.Taken.{Taken}
 use Rattle.futures_buffered_table.specs.declared.answer.Woke.{Woke}
-use Rattle.futures_buffered_unordered.specs.FuturesUnorderedBounded.{Bounded, OnlyRegisters, held_in}
-use Rattle.futures_buffered_unordered.specs.Groups.{AnyOf, Groups, GroupsGive, WakesIf}
-use Rattle.futures_buffered_unordered.proofs.HeldLemmas.{count-with}
-use Rattle.futures_buffered_unordered.specs.FuturesUnordered.{held_in_all, PollsGroup}
-use Rattle.futures_buffered_unordered.proofs.FuturesUnorderedInvariantLemmas.{alike_asked, alike_on, alike_self}
-use Rattle.futures_buffered_unordered.proofs.FuturesUnorderedPollLemmas.{any_left, any_output, ends_empty, still_held}
-use Rattle.futures_buffered_unordered.proofs.FuturesUnorderedBoundedLemmas.{passed_held}
-use Rattle.futures_buffered_unordered.specs.Merging.{CountEnds, LastAsks, MergeAsks, PollsMergeBounded, SlotStreamOf, unless_registered}
+use Rattle.futures_buffered_unordered.specs.FuturesUnorderedBounded.{Bounded, held_in}
+use Rattle.futures_buffered_unordered.specs.Groups.{AnyOf, AsksInTurn, Groups}
+use Rattle.futures_buffered_unordered.specs.FuturesUnordered.{held_in_all}
+use Rattle.futures_buffered_unordered.specs.PollsBounded.{unless_registered}
+use Rattle.futures_buffered_unordered.specs.Merging.{CountEnds, LastAsks, MergeAsks, MergeGives, PollsMergeBounded, SlotStreamOf}
 use Rattle.futures_buffered_unordered.specs.MergeUnbounded.{GroupMayGive, ItemsComeFromGroups}
-use Rattle.futures_buffered_unordered.proofs.GroupsTaskLemmas.{wakes_weaker}
-use Rattle.futures_buffered_unordered.proofs.MergingLemmas.{only_registers, unchanged_once}
+use Rattle.futures_buffered_unordered.proofs.FuturesUnorderedInvariantLemmas.{alike_asked, alike_on, alike_self}
+use Rattle.futures_buffered_unordered.proofs.GroupsLemmas.{Weighs, output_weighs, turns_any, turns_output, turns_weigh}
 use Rattle.futures_buffered_unordered.proofs.MergeBoundedLemmas.{value_of, rest_of, same_of, ended_of}
 
 module _ {F A S : Type 0} (needs : S → ℕ → Type 0) (polled : ℕ → F → Poll (Option A) → F → Type 0) (steps : SourceSteps S) (marks : S → ℕ → Woke → S → Type 0)
@@ -45,80 +41,75 @@ module _ {F A S : Type 0} (needs : S → ℕ → Type 0) (polled : ℕ → F →
   pub alike_merged : (stopped : Bool) (old new : Bounded F S) (answer : Poll (Option A)) → MergeAsks polled steps marks stopped old answer new → WaitsAlike needs old.source new.source
   alike_merged stopped old new answer h = alike_on needs old.source h.before.source new.source (alike_counts h.ended old h.before h.counts) (alike_last stopped h.before new answer h.last_count)
 
-module _ {F A S : Type 0} (polled : ℕ → F → Poll (Option A) → F → Type 0) (steps : SourceSteps S) (marks : S → ℕ → Woke → S → Type 0) where
+-- a registration, or none, leaves the source at the same places
+pub unless_waits : {S W : Type 0} (source : ReadySourceOf S W) (b : Bool) → ((old new : S) → source.steps.registers old new → WaitsAlike source.needs old new) → (old new : S) → (unless_registered b source).steps.registers old new → WaitsAlike source.needs old new
+unless_waits {S} source true waits old new same = subst (λ (s : S). WaitsAlike source.needs old s) (sym same) (alike_self source.needs old)
+unless_waits source false waits old new registers = waits old new registers
+
+module _ {St W A S : Type 0} (stream : SlotStreamOf St W A) (source : ReadySourceOf S W) where
+  -- how a merge polls a group
+  abbrev pub PollsOneMerge : Bool → Bounded St S → Poll (Option A) → Bounded St S → Context → Context → Type 0
+  PollsOneMerge is_registered = PollsMergeBounded stream (unless_registered is_registered source)
+
+  -- one poll of a group, told of the group alone
+  pub merge_gives : (b : Bool) (old new : Bounded St S) (answer : Poll (Option A)) (cx left : Context) → PollsOneMerge b old answer new cx left → MergeGives stream.polled (unless_registered b source).steps source.marks old answer new
+  merge_gives b old new answer cx left it = (it.stopped, it.gave)
+
   -- what a group holds, by its answer
-  pending_held : (stopped : Bool) (old new : Bounded F S) → MergeAsks polled steps marks stopped old Pending new → 0 < held_in new
-  pending_held stopped old new h = omega (arith, h.last_count.0, passed_held polled h.last_count.1.0 h.before.slots new.slots h.last_count.1.4.passes)
+  pending_held : (b : Bool) (old new : Bounded St S) (cx left : Context) → PollsOneMerge b old Pending new cx left → 0 < held_in new
+  pending_held b old new cx left it = it.pending
 
-  end_held : (stopped : Bool) (old new : Bounded F S) → MergeAsks polled steps marks stopped old (Ready None) new → held_in new ≡ 0
-  end_held stopped old new h = ap (λ (b : Bounded F S). held_in b) h.last_count.1 ∙ h.last_count.0
+  end_held : (b : Bool) (old new : Bounded St S) (cx left : Context) → PollsOneMerge b old (Ready None) new cx left → held_in new ≡ 0
+  end_held b old new cx left it = it.ends
 
-  item_held : (stopped : Bool) (old new : Bounded F S) (x : A) → MergeAsks polled steps marks stopped old (Ready (Some x)) new → 0 < held_in new
-  item_held stopped old new x h =
-      let last = h.last_count.1 in
-      let left = last.1 in
-      let asks = last.2 in
-      let gave = asks.4 in
-      let same : held_count left.slots ≡ held_count asks.2 = ap held_count gave.now_holds ∙ count-with asks.2 last.0 gave.value gave.left (sym gave.held) in
-      omega (arith, h.last_count.0, ap (λ (b : Bounded F S). held_in b) last.4, same, passed_held polled asks.0 h.before.slots asks.2 asks.3.passes)
+  -- the items that may come
+  group_left : (y : A) (b : Bool) (group left : Bounded St S) (answer : Poll (Option A)) (cx after : Context) → PollsOneMerge b group answer left cx after → GroupMayGive stream.polled left y → GroupMayGive stream.polled group y
+  group_left y b group left (Ready (Some x)) cx after it may = (x ∷ may.0, rest_of stream.polled (unless_registered b source).steps source.marks group left (Ready (Some x)) (merge_gives b group left _ cx after it) may.0 (Some y) may.1)
+  group_left y b group left (Ready None) cx after it may = (may.0, ended_of stream.polled (unless_registered b source).steps source.marks group left (merge_gives b group left _ cx after it) may.0 (Some y) may.1)
+  group_left y b group left Pending cx after it may = (may.0, same_of stream.polled (unless_registered b source).steps source.marks group left Pending (merge_gives b group left _ cx after it) may.0 (Some y) may.1)
 
-  module _ (old new : Groups (Bounded F S)) (stopped : Bool) where
+  module _ (old new : Groups (Bounded St S)) (cx left : Context) where
+    -- one poll of the groups
+    abbrev pub MergesTurns : Poll (Option A) → Type 0
+    MergesTurns answer = AsksInTurn PollsOneMerge (length old.listed) false old answer new cx left
+
+    left_of : (answer : Poll (Option A)) → MergesTurns answer → Weighs {A = A} PollsOneMerge held_in end_held pending_held answer (held_in_all new.listed)
+    left_of answer h = turns_weigh PollsOneMerge held_in end_held pending_held old answer new cx left h
+
+    pub held_of : (answer : Poll (Option A)) → MergesTurns answer → OnPending answer (0 < held_in_all new.listed)
+    held_of (Ready o) h = tt
+    held_of Pending h = left_of Pending h
+
     -- the answer is the end where no stream is left
-    pub ends_of : (answer : Poll (Option A)) → GroupsGive (MergeAsks polled steps marks) old answer stopped new → (answer ≡ Ready None) ↔ (held_in_all new.listed ≡ 0)
-    ends_of answer h = ends_empty (MergeAsks polled steps marks) end_held pending_held item_held old new stopped answer h
+    pub ends_of : (answer : Poll (Option A)) → MergesTurns answer → (answer ≡ Ready None) ↔ (held_in_all new.listed ≡ 0)
+    ends_of (Ready None) h = (λ _. left_of (Ready None) h, λ _. refl)
+    ends_of (Ready (Some x)) h =
+        let some = output_weighs PollsOneMerge held_in end_held pending_held x (λ b group after c d it. it.item) _ _ old new cx left h in
+        (λ e. absurd (cc e), λ none. absurd (omega (arith, none, some)))
+    ends_of Pending h = (λ e. absurd (cc e), λ none. absurd (omega (arith, none, left_of Pending h)))
 
-    pub held_of : (answer : Poll (Option A)) → GroupsGive (MergeAsks polled steps marks) old answer stopped new → OnPending answer (0 < held_in_all new.listed)
-    held_of answer h = still_held (MergeAsks polled steps marks) end_held pending_held old new stopped answer h
+    still : (answer : Poll (Option A)) → MergesTurns answer → (y : A) → AnyOf (λ (g : Bounded St S). GroupMayGive stream.polled g y) new.listed → AnyOf (λ (g : Bounded St S). GroupMayGive stream.polled g y) old.listed
+    still answer h y any = turns_any PollsOneMerge (λ (g : Bounded St S). GroupMayGive stream.polled g y) (group_left y) _ _ old answer new cx left h any
 
-    -- the items that may come
-    group_left : (y : A) (b : Bool) (group left : Bounded F S) (answer : Poll (Option A)) → MergeAsks polled steps marks b group answer left → GroupMayGive polled left y → GroupMayGive polled group y
-    group_left y b group left (Ready (Some x)) h may = (x ∷ may.0, rest_of polled steps marks group left (Ready (Some x)) (b, h) may.0 (Some y) may.1)
-    group_left y b group left (Ready None) h may = (may.0, ended_of polled steps marks group left (b, h) may.0 (Some y) may.1)
-    group_left y b group left Pending h may = (may.0, same_of polled steps marks group left Pending (b, h) may.0 (Some y) may.1)
-
-    still : (answer : Poll (Option A)) → GroupsGive (MergeAsks polled steps marks) old answer stopped new → (y : A) → AnyOf (λ (g : Bounded F S). GroupMayGive polled g y) new.listed → AnyOf (λ (g : Bounded F S). GroupMayGive polled g y) old.listed
-    still answer h y any = any_left (MergeAsks polled steps marks) (λ (g : Bounded F S). GroupMayGive polled g y) (group_left y) old answer stopped new h any
-
-    pub group_value : (answer : Poll (Option A)) → GroupsGive (MergeAsks polled steps marks) old answer stopped new → IfReady answer (ItemsComeFromGroups polled old.listed [])
+    pub group_value : (answer : Poll (Option A)) → MergesTurns answer → IfReady answer (ItemsComeFromGroups stream.polled old.listed [])
     group_value (Ready None) h = tt
-    group_value (Ready (Some x)) h = any_output (MergeAsks polled steps marks) (λ (g : Bounded F S). GroupMayGive polled g x) old new stopped x h (λ b group left asked. ([], value_of polled steps marks group left (Ready (Some x)) (b, asked)))
+    group_value (Ready (Some x)) h =
+        turns_output PollsOneMerge (λ (g : Bounded St S). GroupMayGive stream.polled g x) (group_left x) x (λ b group after c d it. ([], value_of stream.polled (unless_registered b source).steps source.marks group after (Ready (Some x)) (merge_gives b group after (Ready (Some x)) c d it))) _ _ old new cx left h
     group_value Pending h = tt
 
-    pub group_rest : (answer : Poll (Option A)) → GroupsGive (MergeAsks polled steps marks) old answer stopped new → IfReady answer (λ o. IfSome o (λ x. After (ItemsComeFromGroups polled old.listed) x (ItemsComeFromGroups polled new.listed)))
+    pub group_rest : (answer : Poll (Option A)) → MergesTurns answer → IfReady answer (λ o. IfSome o (λ x. After (ItemsComeFromGroups stream.polled old.listed) x (ItemsComeFromGroups stream.polled new.listed)))
     group_rest (Ready None) h = tt
     group_rest (Ready (Some x)) h = after
       where
-        after : After (ItemsComeFromGroups polled old.listed) x (ItemsComeFromGroups polled new.listed)
+        after : After (ItemsComeFromGroups stream.polled old.listed) x (ItemsComeFromGroups stream.polled new.listed)
         after items None run = tt
         after items (Some y) run = still (Ready (Some x)) h y run
     group_rest Pending h = tt
 
-    pub group_same : (answer : Poll (Option A)) → GroupsGive (MergeAsks polled steps marks) old answer stopped new → OnPending answer (Within (ItemsComeFromGroups polled old.listed) (ItemsComeFromGroups polled new.listed))
+    pub group_same : (answer : Poll (Option A)) → MergesTurns answer → OnPending answer (Within (ItemsComeFromGroups stream.polled old.listed) (ItemsComeFromGroups stream.polled new.listed))
     group_same (Ready o) h = tt
     group_same Pending h = within
       where
-        within : Within (ItemsComeFromGroups polled old.listed) (ItemsComeFromGroups polled new.listed)
+        within : Within (ItemsComeFromGroups stream.polled old.listed) (ItemsComeFromGroups stream.polled new.listed)
         within items None run = tt
         within items (Some y) run = still Pending h y run
-
--- A poll of a group, which registers unless the task is registered, as that of a merge that grows.
-module _ {St W A S : Type 0} (stream : SlotStreamOf St W A) (source : ReadySourceOf S W) (is_registered : Bool) (old new : Bounded St S) (answer : Poll (Option A)) (cx left : Context) (it : PollsMergeBounded stream (unless_registered is_registered source) old answer new cx left) where
-  -- the end wakes nobody
-  at_end : (answer : Poll (Option A)) (stopped : Bool) → MergeAsks stream.polled source.steps source.marks stopped old answer new → WakesIf stopped (OnlyRegisters source.registers_poll) cx left → IfReady answer (λ o. IfNone o (OnlyRegisters source.registers_poll cx left))
-  at_end (Ready None) stopped gave woken = rw gave.last_count.2 at woken
-  at_end (Ready (Some x)) stopped gave woken = tt
-  at_end Pending stopped gave woken = tt
-
-  pub group_polls : PollsGroup source (MergeAsks stream.polled source.steps source.marks) (OnlyRegisters source.registers_poll) is_registered old answer new cx left
-  group_polls =
-      let registered = OnlyRegisters (unless_registered is_registered source).registers_poll in
-      let woken = wakes_weaker registered (OnlyRegisters source.registers_poll) it.stopped cx left (λ once. only_registers source is_registered once.0 cx left once.1) it.woken in
-      record {
-        stopped = it.stopped;
-        asked = it.gave;
-        woken = woken;
-        unchanged = λ already. wakes_weaker registered (λ before after. after ≡ before) it.stopped cx left (λ once. unchanged_once source is_registered already once.0 cx left once.1) it.woken;
-        covered = it.covered;
-        passed = at_end answer it.stopped it.gave woken;
-        kept = it.kept;
-      }

@@ -4,12 +4,12 @@ use Rattle.std.specs.List.{AllByRecursion}
 use Rattle.std.proofs.lemmas.List.{append-nil, append_assoc, map-append}
 use Rattle.futures.specs.declared.task.Poll.{Poll}
 use Rattle.futures_buffered_core.specs.SlotMap.{Slots, Inserts, slot_count}
-use Rattle.futures_buffered_table.specs.declared.answer.Woke.{Woke}
-use Rattle.futures_buffered_core.specs.ReadySource.{SourceSteps}
+use Rattle.futures_buffered_core.specs.declared.ready_source.ReadySource.{Ghosts as ReadySourceOf}
 use Rattle.futures_buffered_unordered.specs.FuturesUnorderedBounded.{Bounded, IsNewSet, held_in}
 use Rattle.futures_buffered_unordered.specs.FuturesUnordered.{Growing, GrowingPushes, next_capacity, spare_places}
 use Rattle.futures_buffered_unordered.specs.declared.futures_unordered.TheConstants.{FIRST_GROUP}
 use Rattle.futures_buffered_unordered.specs.SlotStream.{items_in}
+use Rattle.futures_buffered_unordered.specs.Merging.{SlotStreamOf}
 use Rattle.futures_buffered_unordered.specs.MergeBounded.{answered, pushed, answers_of, streams_of}
 use Rattle.futures_buffered_unordered.specs.MergeUnbounded.{HoldsNone, GroupsGaveInTurn, KeepsOrderInGroupsWithPushes, slots_of_each}
 use Rattle.futures_buffered_unordered.proofs.FuturesUnorderedLemmas.{new_holds_none}
@@ -25,24 +25,24 @@ module _ {F A : Type 0} (polled : ℕ → F → Poll (Option A) → F → Type 0
   groups_pushed (group ∷ before) into pushed_into i stream inserted =
       (group, [], [], turns_none polled group, [], stream ∷ [], before ++ pushed_into ∷ [], groups_pushed before into pushed_into i stream inserted, (refl, refl), interleaves_append [] (stream ∷ []), inl refl)
 
-module _ {F A S : Type 0} (polled : ℕ → F → Poll (Option A) → F → Type 0) (steps : SourceSteps S) (marks : S → ℕ → Woke → S → Type 0) (made : ℕ → S → Type 0) where
+module _ {St W A S : Type 0} (stream : SlotStreamOf St W A) (source : ReadySourceOf S W) (made : ℕ → S → Type 0) where
   -- what the law says of some events, by what comes of them
-  abbrev Kept : Growing F S → List A → List F → Growing F S → Type 0
-  Kept old items streams new = (added : List (Slots F)) × AllByRecursion HoldsNone added × GroupsGaveInTurn polled (slots_of_each old.groups.listed ++ added) items streams (slots_of_each new.groups.listed)
+  abbrev Kept : Growing St S → List A → List St → Growing St S → Type 0
+  Kept old items streams new = (added : List (Slots St)) × AllByRecursion HoldsNone added × GroupsGaveInTurn stream.polled (slots_of_each old.groups.listed ++ added) items streams (slots_of_each new.groups.listed)
 
-  pushed_first : (old mid new : Growing F S) (stream : F) (items : List A) (streams : List F) → GrowingPushes marks made FIRST_GROUP old stream mid → Kept mid items streams new → Kept old items (stream ∷ streams) new
-  pushed_first old mid new stream items streams h (added, none, gave) = by_group h.goes_into
+  pushed_first : (old mid new : Growing St S) (value : St) (items : List A) (streams : List St) → GrowingPushes source.marks made FIRST_GROUP old value mid → Kept mid items streams new → Kept old items (value ∷ streams) new
+  pushed_first old mid new value items streams h (added, none, gave) = by_group h.goes_into
     where
-      last_of : (group : Bounded F S) → slots_of_each (h.before ++ group ∷ []) ≡ slots_of_each h.before ++ group.slots ∷ []
-      last_of group = map-append (λ (b : Bounded F S). b.slots) h.before (group ∷ [])
+      last_of : (group : Bounded St S) → slots_of_each (h.before ++ group ∷ []) ≡ slots_of_each h.before ++ group.slots ∷ []
+      last_of group = map-append (λ (b : Bounded St S). b.slots) h.before (group ∷ [])
 
-      gave_here : GroupsGaveInTurn polled ((slots_of_each h.before ++ h.into.slots ∷ []) ++ added) items (stream ∷ streams) (slots_of_each new.groups.listed)
+      gave_here : GroupsGaveInTurn stream.polled ((slots_of_each h.before ++ h.into.slots ∷ []) ++ added) items (value ∷ streams) (slots_of_each new.groups.listed)
       gave_here =
           let push = h.pushed in
-          groups_on polled _ (slots_of_each h.before ++ h.pushed_into.slots ∷ []) added _ [] items (stream ∷ []) streams (groups_pushed polled (slots_of_each h.before) h.into.slots h.pushed_into.slots push.0 stream push.1.inserted)
-          (subst (λ (l : List (Slots F)). GroupsGaveInTurn polled (l ++ added) items streams (slots_of_each new.groups.listed)) (ap (λ (l : List (Bounded F S)). slots_of_each l) h.now_listed ∙ last_of h.pushed_into) gave)
+          groups_on stream.polled _ (slots_of_each h.before ++ h.pushed_into.slots ∷ []) added _ [] items (value ∷ []) streams (groups_pushed stream.polled (slots_of_each h.before) h.into.slots h.pushed_into.slots push.0 value push.1.inserted)
+          (subst (λ (l : List (Slots St)). GroupsGaveInTurn stream.polled (l ++ added) items streams (slots_of_each new.groups.listed)) (ap (λ (l : List (Bounded St S)). slots_of_each l) h.now_listed ∙ last_of h.pushed_into) gave)
 
-      by_group : ((old.groups.listed ≡ h.before ++ h.into ∷ []) × (held_in h.into < slot_count h.into.slots)) ⊎ ((old.groups.listed ≡ h.before) × (spare_places h.before ≡ 0) × IsNewSet made (next_capacity FIRST_GROUP h.before) old.limit h.into) → Kept old items (stream ∷ streams) new
+      by_group : ((old.groups.listed ≡ h.before ++ h.into ∷ []) × (held_in h.into < slot_count h.into.slots)) ⊎ ((old.groups.listed ≡ h.before) × (spare_places h.before ≡ 0) × IsNewSet made (next_capacity FIRST_GROUP h.before) old.limit h.into) → Kept old items (value ∷ streams) new
       by_group (inl last) = (added, none, rw (last.0, last_of h.into) gave_here)
       by_group (inr new_one) = (
         h.into.slots ∷ added,
@@ -50,9 +50,9 @@ module _ {F A S : Type 0} (polled : ℕ → F → Poll (Option A) → F → Type
         rw new_one.0 (rw append_assoc at gave_here),
       )
 
-  pub keeps_order_in_groups_with_pushes : KeepsOrderInGroupsWithPushes polled steps marks made
-  keeps_order_in_groups_with_pushes old new [] h = ([], tt, rw append-nil (subst (λ (g : Growing F S). GroupsGaveInTurn polled (slots_of_each old.groups.listed) [] [] (slots_of_each g.groups.listed)) h (groups_none polled (slots_of_each old.groups.listed))))
+  pub keeps_order_in_groups_with_pushes : KeepsOrderInGroupsWithPushes stream source made
+  keeps_order_in_groups_with_pushes old new [] h = ([], tt, rw append-nil (subst (λ (g : Growing St S). GroupsGaveInTurn stream.polled (slots_of_each old.groups.listed) [] [] (slots_of_each g.groups.listed)) h (groups_none stream.polled (slots_of_each old.groups.listed))))
   keeps_order_in_groups_with_pushes old new (answered answer ∷ events) h =
       let (added, none, gave) = keeps_order_in_groups_with_pushes h.0 new events h.2 in
-      (added, none, poll_first polled steps marks old.groups h.0.groups added (slots_of_each new.groups.listed) answer (answers_of events) (streams_of events) h.1 gave)
-  keeps_order_in_groups_with_pushes old new (pushed stream ∷ events) h = pushed_first old h.0 new stream (items_in (answers_of events)) (streams_of events) h.1 (keeps_order_in_groups_with_pushes h.0 new events h.2)
+      (added, none, poll_first stream source old h.0 added (slots_of_each new.groups.listed) answer (answers_of events) (streams_of events) h.1 gave)
+  keeps_order_in_groups_with_pushes old new (pushed value ∷ events) h = pushed_first old h.0 new value (items_in (answers_of events)) (streams_of events) h.1 (keeps_order_in_groups_with_pushes h.0 new events h.2)

@@ -1,6 +1,5 @@
 -- From one count of names of a set to a poll of its streams.
-use Rattle.std.proofs.Common.{◌≡◌, ◌+◌, ℕ, Bool, true, false, true≢false, IsTrue, List, [], ◌∷◌, Option, Some, None, IfNone, OnSome, ◌<◌, refl, sym, ap, subst, arith, ◌∙◌}
-use Rattle.std.specs.List.{FoldsTo}
+use Rattle.std.proofs.Common.{◌≡◌, ◌+◌, ℕ, Bool, false, ◌||◌, [], ◌∷◌, ◌++◌, Option, Some, None, IfNone, OnSome, ◌<◌, refl, sym, ap, arith, ◌∙◌}
 use Rattle.futures.specs.Poll.{IfReady, OnPending}
 use Rattle.futures.specs.Task.{Covers, Keeps}
 use Rattle.futures.specs.declared.task.context.Context.{Context}
@@ -8,31 +7,31 @@ use Rattle.futures.specs.declared.task.Poll.{Poll}
 use Rattle.futures.specs.declared.task.Poll.TheVariants.{Ready, Pending}
 use Rattle.futures_buffered_core.specs.SlotMap.{Slots}
 use Rattle.futures_buffered_unordered.specs.FuturesUnorderedBounded.{Bounded, MarksSlot, OnlyRegisters, held_in, slots_in, with_empty_slot, with_source}
-use Rattle.futures_buffered_unordered.specs.Groups.{WakesIf}
 use Rattle.futures_buffered_unordered.specs.Held.{AllHeld}
 use Rattle.futures_buffered_unordered.specs.PollsBounded.{ReadySourceOf, RegistersAndTakes}
 use Rattle.futures_buffered_unordered.proofs.FuturesUnorderedBoundedLemmas.{registers_once}
-use Rattle.futures_buffered_unordered.specs.FuturesUnorderedBounded.{registers_more, registers_none}
-use Rattle.futures_buffered_unordered.proofs.GroupsTaskLemmas.{wakes_on}
 use Rattle.futures_buffered_unordered.proofs.PollsBoundedLemmas.{stops_of, until_of}
-use Rattle.futures_buffered_unordered.specs.Merging.{CountPolls, LastAsks, PollsMergeBounded, SlotStreamOf, each_stream, unless_registered}
+use Rattle.futures_buffered_unordered.proofs.SlotStreamLemmas.{folds_append}
+use Rattle.futures_buffered_unordered.specs.Merging.{CountPolls, LastAsks, PollsMergeBounded, SlotStreamOf, WakesIf, each_stream}
 
 -- two sets that differ in their source alone
 same_but_source : {F S : Type 0} (left new : Bounded F S) → new.slots ≡ left.slots → new.limit ≡ left.limit → new ≡ with_source left new.source
 same_but_source {F} {S} left new slots limit =
     ap (λ (m : Slots F). record { slots = m; source = new.source; limit = new.limit }) slots ∙ ap (λ (n : ℕ). record { slots = left.slots; source = new.source; limit = n }) limit
 
--- a poll that registers nothing where the task is registered at most registers it
-pub only_registers : {S W : Type 0} (source : ReadySourceOf S W) (is_registered : Bool) (sources : List S) (cx left : Context) → FoldsTo (λ cx s next. (unless_registered is_registered source).registers_poll s cx next) cx sources left → OnlyRegisters source.registers_poll cx left
-only_registers source false sources cx left h = (sources, h)
-only_registers source true [] cx left h = ([], h)
-only_registers source true (s ∷ sources) cx left h = subst (λ c. OnlyRegisters source.registers_poll c left) h.1 (only_registers source true sources h.0 left h.2)
+module _ {S : Type 0} (registers_poll : S → Context → Context → Type 0) where
+  -- an unchanged task is one without a registration
+  registers_none : (old new : Context) → new ≡ old → OnlyRegisters registers_poll old new
+  registers_none old new same = ([], sym same)
 
--- and leaves that task unchanged
-pub unchanged_once : {S W : Type 0} (source : ReadySourceOf S W) (is_registered : Bool) → IsTrue is_registered → (sources : List S) (cx left : Context) → FoldsTo (λ cx s next. (unless_registered is_registered source).registers_poll s cx next) cx sources left → left ≡ cx
-unchanged_once source false already sources cx left h = absurd (true≢false (sym already))
-unchanged_once source true already [] cx left h = sym h
-unchanged_once source true already (s ∷ sources) cx left h = unchanged_once source true already sources h.0 left h.2 ∙ h.1
+  -- registrations after others are registrations
+  registers_more : (old mid new : Context) → OnlyRegisters registers_poll old mid
+      → OnlyRegisters registers_poll mid new → OnlyRegisters registers_poll old new
+  registers_more old mid new before later = (before.0 ++ later.0, folds_append (λ cx source next. registers_poll source cx next) before.0 later.0 old mid new before.1 later.1)
+
+-- one asks after another, and each may stop; a task that was woken stays so until its poll ends
+wakes_on : (registers : Context → Context → Type 0) (first then : Bool) (cx mid left : Context) → (registers cx mid → registers mid left → registers cx left) → Keeps mid left → WakesIf first registers cx mid → WakesIf then registers mid left → WakesIf (first || then) registers cx left
+wakes_on registers first then cx mid left more kept before after = grind arith
 
 module _ {St W A S : Type 0} (stream : SlotStreamOf St W A) (source : ReadySourceOf S W) where
   -- a poll of which the first count is the last

@@ -1,5 +1,5 @@
 -- A poll of a bounded set: what it has asked so far, how it ends, and what a caller takes from its record.
-use Rattle.std.proofs.Common.{◌≡◌, ℕ, ◌+◌, ◌<◌, Bool, true, false, List, [], ◌∷◌, ◌++◌, map, length, Option, Some, None, IfNone, is_some, refl, sym, ap, subst, arith, append-nil, length-set, ◌∙◌}
+use Rattle.std.proofs.Common.{◌≡◌, ℕ, ◌+◌, ◌<◌, Bool, true, false, List, [], ◌∷◌, ◌++◌, map, length, Option, Some, None, is_some, refl, sym, ap, subst, arith, append-nil, length-set, ◌∙◌}
 use Rattle.std.specs.List.{FoldsTo}
 use Rattle.std.specs.Option.{option_to_list}
 use Rattle.std.proofs.lemmas.Fn.{FoldsTo-push}
@@ -8,15 +8,14 @@ use Rattle.futures.specs.Task.{Covers, Keeps}
 use Rattle.futures.specs.declared.task.context.Context.{Context}
 use Rattle.futures.specs.declared.task.Poll.{Poll}
 use Rattle.futures.specs.declared.task.Poll.TheVariants.{Ready, Pending}
-use Rattle.futures.specs.Poll.{IfReady}
 use Rattle.futures_buffered_core.specs.SlotMap.{Slots, value_in, held_count, slot_count, with_value}
 use Rattle.futures_buffered_table.specs.declared.answer.Taken.{Taken}
 use Rattle.futures_buffered_table.specs.declared.answer.Taken.TheVariants.{Slot, Empty, Pause}
 use Rattle.futures_buffered_unordered.specs.StreamAnswers.{StreamAnswers}
 use Rattle.futures_buffered_unordered.specs.Held.{AllHeld, ComesFrom, EndsWith, Passes}
-use Rattle.futures_buffered_unordered.specs.FuturesUnorderedBounded.{Bounded, Asks, AsksNone, AsksUntil, EndsWaiting, PollAsks, PollGives, held_in, slots_in, with_empty_slot, with_source}
-use Rattle.futures_buffered_unordered.specs.Groups.{WakesIf}
-use Rattle.futures_buffered_unordered.specs.PollsBounded.{EndsPending, PollOneOf, PollsBounded, ReadySourceOf, RegistersAndTakes, TakesNames}
+use Rattle.futures_buffered_unordered.specs.FuturesUnorderedBounded.{Bounded, Asks, AsksNone, AsksUntil, EndsWaiting, PollGives, held_in, slots_in, with_empty_slot}
+use Rattle.futures_buffered_unordered.specs.Merging.{WakesIf}
+use Rattle.futures_buffered_unordered.specs.PollsBounded.{EndsPending, PollOneOf, PollsBounded, ReadySourceOf, RegistersAndTakes, TakesNames, unless_registered}
 use Rattle.futures_buffered_unordered.proofs.HeldLemmas.{AllHeld-with, AllHeldBut-with, count-with, same-with, value_in-with_value, passes_pending}
 use Rattle.futures_buffered_unordered.proofs.StreamAnswersLemmas.{answers_of, covers_fewer}
 use Rattle.futures_buffered_unordered.proofs.FuturesUnorderedBoundedLemmas.{rest_of, same_of, value_of}
@@ -128,21 +127,13 @@ module _ {R F W A S : Type 0} (rule : PollOneOf R F W A) (source : ReadySourceOf
       let holds : value_in new.slots i ≡ Some it.left = ap (λ (m : Slots F). value_in m i) it.now_holds ∙ value_in-with_value takes.passed i it.value it.left (sym it.held) in
       rw holds (it.value, it.gave)
 
--- the source as one of which this is a registration, which leaves the task alone
-abbrev pub registered_by : {S W : Type 0} → ReadySourceOf S W → (S → S → Type 0) → ReadySourceOf S W
-registered_by source registers = record source {
-  steps = record { registers = registers; takes = source.steps.takes };
-  registers_poll = λ _ cx left. left ≡ cx;
-}
-
--- a count of names of a set that is registered, told from the source as it was before a registration
-pub takes_after : {R F W A S : Type 0} (rule : PollOneOf R F W A) (source : ReadySourceOf S W) (registers : S → S → Type 0) (before : S) (old new : Bounded F S) (answer : Poll (ℕ × A)) (cx left : Context) → registers before old.source → TakesNames rule source old answer new cx left
-    → RegistersAndTakes rule (registered_by source registers) (with_source old before) answer new cx left
-takes_after {R} {F} {W} {A} {S} rule source registers before old new answer cx left first it =
+-- a round of a set whose task is registered already
+pub takes_registered : {R F W A S : Type 0} (rule : PollOneOf R F W A) (source : ReadySourceOf S W) (old new : Bounded F S) (answer : Poll (ℕ × A)) (cx left : Context) → TakesNames rule source old answer new cx left → RegistersAndTakes rule (unless_registered true source) old answer new cx left
+takes_registered {R} {F} {W} {A} {S} rule source old new answer cx left it =
     record {
       source_then = old.source;
       task_then = cx;
-      registers = first;
+      registers = refl;
       registers_task = refl;
       takes = grind arith;
       kept = it.kept;
@@ -219,20 +210,6 @@ module _ {R F W A S : Type 0} (rule : PollOneOf R F W A) (source : ReadySourceOf
       by_last (Some Pause) is h = (true, (asks.takes.names, Some Pause, h.0, refl, asks_of old new Pending cx left asks (Some Pause) new.slots is asks.takes.ends.0, asks.takes.limit), h.1)
       by_last (Some (Slot i)) is h = absurd h
       by_last None is h = (true, (asks.takes.names, None, h.0, refl, asks_of old new Pending cx left asks None new.slots is asks.takes.ends.0, asks.takes.limit), h.1)
-
-  -- the same of any poll, whose end leaves the task alone
-  pub asked_of : (told : Context → Context → Type 0) (old new : Bounded F S) (answer : Poll (Option A)) (cx left : Context) → (left ≡ cx → told cx left) → ((s : S) (then : Context) → source.registers_poll s cx then → told cx then) → PollsBounded rule source old answer new cx left
-      → (stopped : Bool) × PollAsks rule.polled (record { registers = registers; takes = source.steps.takes }) stopped old answer new × WakesIf stopped told cx left
-  asked_of told old new (Ready None) cx left none tells it = (false, ((it.gave.0, it.gave.1), refl), none it.gave.2)
-  asked_of told old new (Ready (Some x)) cx left none tells it =
-      let asks = it.gave.1.2 in
-      (false, (gives_of old new (Ready (Some x)) cx left it, refl), rw asks.takes.ends.3 (tells old.source asks.task_then asks.registers_task))
-  asked_of told old new Pending cx left none tells it =
-      let stops = stops_of told old new cx left tells it.gave.1 in
-      (stops.0, (it.gave.0, stops.1), stops.2)
-
-  pub untouched_of : (old new : Bounded F S) (answer : Poll (Option A)) (cx left : Context) → PollsBounded rule source old answer new cx left → IfReady answer (λ o. IfNone o (left ≡ cx))
-  untouched_of old new answer cx left it = let gave = it.gave in grind arith
 
 module _ {R F W A S : Type 0} (rule : PollOneOf R F W A) (source : ReadySourceOf S W) where
   -- a poll of a set is one of a stream

@@ -1,11 +1,19 @@
 -- Polls of one stream, one row behind another.
-use Rattle.std.proofs.Common.{◌≡◌, List, [], ◌∷◌, ◌++◌, Option, Some, None, refl, sym, append-nil}
+use Rattle.std.proofs.Common.{◌≡◌, List, [], ◌∷◌, ◌++◌, Option, Some, None, refl, sym, subst, append-nil}
+use Rattle.std.specs.List.{AllByRecursion, FoldsTo}
 use Rattle.std.proofs.lemmas.List.Elements.{filter_map-append}
 use Rattle.futures.specs.declared.task.Poll.{Poll}
 use Rattle.futures.specs.declared.task.Poll.TheVariants.{Ready, Pending}
-use Rattle.futures_buffered_unordered.specs.FuturesUnorderedBounded.{folds_append}
-use Rattle.futures_buffered_unordered.proofs.GroupsLemmas.{each-append}
 use Rattle.futures_buffered_unordered.specs.SlotStream.{item_of, IsNoEnd, Gave, Became}
+
+-- steps that follow others
+pub folds_append : {P A : Type 0} (step : P → A → P → Type 0) (xs ys : List A) (p q r : P) → FoldsTo step p xs q → FoldsTo step q ys r → FoldsTo step p (xs ++ ys) r
+folds_append step [] ys p q r first rest = subst (λ s. FoldsTo step s ys r) (sym first) rest
+folds_append step (x ∷ xs) ys p q r first rest = (first.0, first.1, folds_append step xs ys first.0 q r first.2 rest)
+
+each-append : {X : Type 0} (P : X → Type 0) (xs ys : List X) → AllByRecursion P xs → AllByRecursion P ys → AllByRecursion P (xs ++ ys)
+each-append P [] ys all more = more
+each-append P (x ∷ xs) ys all more = (all.0, each-append P xs ys all.1 more)
 
 module _ {F A : Type 0} (polled : F → Poll (Option A) → F → Type 0) where
   pub gave_none : (stream : F) → Gave polled stream [] stream

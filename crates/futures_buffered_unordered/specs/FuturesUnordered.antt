@@ -1,10 +1,8 @@
 -- What a contract sees of a growing set, and what its calls make of it.
-use Rattle.std.specs.Prelude.{◌≡◌, ℕ, ◌+◌, ◌-◌, ◌*◌, ◌<◌, Bool, List, [], ◌∷◌, ◌++◌, ◌⊎◌, Option, IfNone, refl, Result}
-use Rattle.std.specs.Prelude.{OnOk, OnErr, IsTrue}
+use Rattle.std.specs.Prelude.{◌≡◌, ℕ, ◌+◌, ◌-◌, ◌*◌, ◌<◌, List, [], ◌∷◌, ◌++◌, ◌⊎◌, refl, Result, OnOk, OnErr}
 use Rattle.std.specs.List.{sum_by, All, FoldsTo}
 use Rattle.std.specs.Coded.{Coded, code_by, coded×, coded_ℕ}
-use Rattle.futures.specs.Task.{Covers, Keeps}
-use Rattle.futures.specs.Poll.{IfReady, OnPending}
+use Rattle.futures.specs.Task.{Covers}
 use Rattle.futures.specs.Queued.{Gathers}
 use Rattle.futures.specs.Runs.{Runs}
 use Rattle.futures.specs.declared.task.context.Context.{Context}
@@ -15,12 +13,10 @@ use Rattle.futures_buffered_table.specs.declared.answer.NewFault.{NewFault}
 use Rattle.futures_buffered_table.specs.declared.answer.Woke.{Woke}
 use Rattle.futures_buffered_core.specs.Drawn.{Items}
 use Rattle.futures_buffered_core.specs.ReadyShared.{Shared, IsNewShared, MarksShared}
-use Rattle.futures_buffered_core.specs.declared.ready_source.ReadySource.{Ghosts as ReadySourceOf}
 use Rattle.futures_buffered_unordered.specs.Extended.{MakesExtended, MakesGrown}
 use Rattle.futures_buffered_unordered.specs.Held.{AllHeld, AnyMayGive}
-use Rattle.futures_buffered_unordered.specs.FuturesUnorderedBounded.{Bounded, bounded_code, IsNewSet, OnlyRegisters}
-use Rattle.futures_buffered_unordered.specs.FuturesUnorderedBounded.{PushesAt, held_in}
-use Rattle.futures_buffered_unordered.specs.Groups.{Groups, groups_code, AnyOf, WakesIf}
+use Rattle.futures_buffered_unordered.specs.FuturesUnorderedBounded.{Bounded, bounded_code, IsNewSet, PushesAt, held_in}
+use Rattle.futures_buffered_unordered.specs.Groups.{Groups, groups_code, AnyOf}
 use Rattle.futures_buffered_unordered.specs.declared.futures_unordered.TheConstants.{FIRST_GROUP, MAX_HELD}
 use Rattle.futures_buffered_unordered.specs.declared.futures_unordered_bounded.TheConstants.{POLL_LIMIT}
 
@@ -159,34 +155,6 @@ MakesPushed from pushes limit = MakesExtended from pushes SetRefuses (no_groups 
 abbrev pub MakesSharedSet : {U F I : Type 0} → Items U F I → Result (Growing F Shared) NewFault → Type 0
 MakesSharedSet from = MakesGrown from FIRST_GROUP (λ n. IsNewGrowing IsNewShared n POLL_LIMIT)
     (GrowingPushes MarksShared IsNewShared FIRST_GROUP) SetRefuses
-
--- One poll of one group, which takes the group from `old` to `new` and the task from `cx` to `left`. `asks` says what
--- the group may return and whether it stopped. `passes` says what a result of `None` makes of the task. `is_registered`
--- says that the task was registered already.
-pub record PollsGroup
-    {F A S W : Type 0}
-    (source : ReadySourceOf S W)
-    (asks : Bool → Bounded F S → Poll (Option A) → Bounded F S → Type 0)
-    (passes : Context → Context → Type 0)
-    (is_registered : Bool)
-    (old : Bounded F S)
-    (answer : Poll (Option A))
-    (new : Bounded F S)
-    (cx left : Context)
-    : Type 0 where
-  -- what the group returned, and whether it stopped although a ready slot may be left
-  pub stopped : Bool
-  pub asked : asks stopped old answer new
-  -- if the group stopped, the task is woken; otherwise the task is at most registered
-  pub woken : WakesIf stopped (OnlyRegisters source.registers_poll) cx left
-  -- if the task was registered already and the group did not stop, the task is unchanged
-  pub unchanged : IsTrue is_registered → WakesIf stopped (λ before after. after ≡ before) cx left
-  -- the task of a pending group is registered where its source waits, or is woken
-  pub covered : OnPending answer (Covers left (source.needs new.source))
-  -- if the result is `None`, `passes` says what that makes of the task
-  pub passed : IfReady answer (λ o. IfNone o (passes cx left))
-  -- the task keeps each earlier registration and wake
-  pub kept : Keeps cx left
 
 module _ {F A S : Type 0} (polled : ℕ → F → Poll A → F → Type 0) where
   -- some future in these groups may give x

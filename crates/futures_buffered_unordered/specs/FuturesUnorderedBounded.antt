@@ -1,7 +1,6 @@
 -- What a contract sees of a bounded set, and what its calls make of it.
-use Rattle.std.specs.Prelude.{◌≡◌, ℕ, ◌+◌, ◌<◌, List, [], ◌∷◌, ◌++◌, map, length, Option, Some, None, Bool, true, false}
+use Rattle.std.specs.Prelude.{◌≡◌, ℕ, ◌+◌, ◌<◌, List, ◌++◌, map, length, Option, Some, None, Bool, true, false}
 use Rattle.std.specs.Prelude.{refl, Result, OnOk, IfErr}
-use Rattle.std.proofs.Common.{sym, subst}
 use Rattle.std.specs.List.{FoldsTo, range_with_len}
 use Rattle.std.specs.Option.{option_to_list}
 use Rattle.std.specs.Coded.{Coded, code_by, coded×, coded_ℕ}
@@ -148,26 +147,10 @@ stops_early (Some (Slot i)) = false
 abbrev pub IsWoken : Context → Type 0
 IsWoken cx = (s : ℕ) → Hears cx s
 
--- steps that follow others
-abbrev pub folds_append : {P A : Type 0} (step : P → A → P → Type 0) (xs ys : List A) (p q r : P)
-    → FoldsTo step p xs q → FoldsTo step q ys r → FoldsTo step p (xs ++ ys) r
-folds_append step [] ys p q r first rest = subst (λ s. FoldsTo step s ys r) (sym first) rest
-folds_append step (x ∷ xs) ys p q r first rest = (first.0, first.1, folds_append step xs ys first.0 q r first.2 rest)
-
 -- the task is unchanged, or as registrations with sources leave it
 abbrev pub OnlyRegisters : {S : Type 0} → (S → Context → Context → Type 0) → Context → Context → Type 0
 OnlyRegisters {S} registers_poll old new = (sources : List S)
     × FoldsTo (λ cx source next. registers_poll source cx next) old sources new
-
-module _ {S : Type 0} (registers_poll : S → Context → Context → Type 0) where
-  -- an unchanged task is one without a registration
-  abbrev pub registers_none : (old new : Context) → new ≡ old → OnlyRegisters registers_poll old new
-  registers_none old new same = ([], sym same)
-
-  -- registrations after others are registrations
-  abbrev pub registers_more : (old mid new : Context) → OnlyRegisters registers_poll old mid
-      → OnlyRegisters registers_poll mid new → OnlyRegisters registers_poll old new
-  registers_more old mid new before later = (before.0 ++ later.0, folds_append _ before.0 later.0 old mid new before.1 later.1)
 
 module _
     {F A S : Type 0}
@@ -222,8 +205,3 @@ module _
         × ((i : ℕ) × (left : Bounded F S)
         × AsksUntil old (Ready (i, x)) left × (new ≡ with_empty_slot left i))
     PollGives old Pending new = (0 < held_count old.slots) × AsksUntil old Pending new
-
-    -- one poll, and whether it stopped although a ready slot may be left
-    abbrev pub PollAsks : Bool → Bounded F S → Poll (Option A) → Bounded F S → Type 0
-    PollAsks stopped old (Ready o) new = PollGives old (Ready o) new × (stopped ≡ false)
-    PollAsks stopped old Pending new = (0 < held_count old.slots) × AsksNone stopped old new

@@ -5,7 +5,6 @@ pub mod FuturesUnorderedBounded
 pub mod PollsBounded
 pub mod PollsGrowing
 pub mod Groups
-pub mod GroupsStep
 pub mod Interleaves
 pub mod FuturesUnordered
 pub mod FuturesUnorderedInvariant

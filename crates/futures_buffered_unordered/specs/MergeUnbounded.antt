@@ -1,6 +1,6 @@
 -- One poll of a growing merge, what may come from it, and what its streams return over many polls. `Merging` has the
 -- poll of a bounded merge.
-use Rattle.std.specs.Prelude.{◌≡◌, ◌↔◌, ℕ, Bool, List, [], ◌∷◌, ◌++◌, map, Option, Some, None, ◌⊎◌}
+use Rattle.std.specs.Prelude.{◌≡◌, ◌↔◌, ℕ, List, [], ◌∷◌, ◌++◌, map, Option, Some, None, ◌⊎◌}
 use Rattle.std.specs.List.{FoldsTo, AllByRecursion}
 use Rattle.futures.specs.declared.task.context.Context.{Context}
 use Rattle.futures.specs.declared.task.Poll.{Poll}
@@ -9,19 +9,18 @@ use Rattle.futures.specs.Poll.{OnPending}
 use Rattle.futures.specs.Task.{Covers}
 use Rattle.futures.specs.Runs.{Runs, ItemsWhere}
 use Rattle.futures_buffered_core.specs.SlotMap.{Slots, value_in}
-use Rattle.futures_buffered_table.specs.declared.answer.Woke.{Woke}
-use Rattle.futures_buffered_core.specs.ReadySource.{SourceSteps}
 use Rattle.futures_buffered_core.specs.declared.ready_source.ReadySource.{Ghosts as ReadySourceOf}
-use Rattle.futures_buffered_unordered.specs.declared.ask_group.AskGroup.{Ghosts as AskGroupOf}
-use Rattle.futures_buffered_unordered.specs.FuturesUnorderedBounded.{Bounded, OnlyRegisters}
+use Rattle.futures_buffered_unordered.specs.FuturesUnorderedBounded.{Bounded}
 use Rattle.futures_buffered_unordered.specs.Interleaves.{Interleaves}
-use Rattle.futures_buffered_unordered.specs.Groups.{AnyOf, Groups, GroupsGive}
+use Rattle.futures_buffered_unordered.specs.Groups.{AnyOf}
 use Rattle.futures_buffered_unordered.specs.FuturesUnordered.{AnyNeeds, Growing, GrowingPushes, held_in_all}
+use Rattle.futures_buffered_unordered.specs.PollsBounded.{unless_registered}
 use Rattle.futures_buffered_unordered.specs.PollsGrowing.{PollsGroups}
 use Rattle.futures_buffered_unordered.specs.declared.futures_unordered.TheConstants.{FIRST_GROUP}
 use Rattle.futures_buffered_unordered.specs.SlotStream.{items_in}
+use Rattle.futures_buffered_unordered.specs.StreamAnswers.{OfSomeTask}
 use Rattle.futures_buffered_unordered.specs.declared.slot_stream.SlotStream.{Ghosts as SlotStreamOf}
-use Rattle.futures_buffered_unordered.specs.Merging.{MergeAsks}
+use Rattle.futures_buffered_unordered.specs.Merging.{PollsMergeBounded}
 use Rattle.futures_buffered_unordered.specs.MergeBounded.{ComesFromStreams, SlotsGaveInTurn, MergeEvent}
 use Rattle.futures_buffered_unordered.specs.MergeBounded.{answered, pushed, answers_of, streams_of}
 
@@ -37,12 +36,6 @@ module _ {F A S : Type 0} (polled : ℕ → F → Poll (Option A) → F → Type
   -- what may come from the groups: items that each may come from one of the groups
   abbrev pub ItemsComeFromGroups : List (Bounded F S) → Runs A
   ItemsComeFromGroups groups = ItemsWhere (λ x. AnyOf (λ group. GroupMayGive group x) groups)
-
--- one poll of groups of streams, whether or not one of them stopped
-abbrev pub GroupsPolled : {F A S : Type 0} → (ℕ → F → Poll (Option A) → F → Type 0) → SourceSteps S
-    → (S → ℕ → Woke → S → Type 0) → Groups (Bounded F S) → Poll (Option A) → Groups (Bounded F S) → Type 0
-GroupsPolled polled steps marks old answer new = (stopped : Bool)
-    × GroupsGive (MergeAsks polled steps marks) old answer stopped new
 
 -- what the slots of each group hold
 abbrev pub slots_of_each : {F S : Type 0} → List (Bounded F S) → List (Slots F)
@@ -63,48 +56,11 @@ GroupsGaveInTurn {F} {A} polled (group ∷ groups) items streams new = (left : S
     × Interleaves into elsewhere streams
     × ((new ≡ left ∷ listed) ⊎ ((new ≡ listed) × HoldsNone left))
 
--- after any polls, the items that they returned are all that the streams returned
-abbrev pub KeepsOrderInGroups : {F A S : Type 0} → (ℕ → F → Poll (Option A) → F → Type 0)
-    → SourceSteps S → (S → ℕ → Woke → S → Type 0) → Type 0
-KeepsOrderInGroups {F} {A} {S} polled steps marks = (old new : Groups (Bounded F S))
-    (answers : List (Poll (Option A)))
-    → FoldsTo (GroupsPolled polled steps marks) old answers new
-    → GroupsGaveInTurn polled (slots_of_each old.listed) (items_in answers) [] (slots_of_each new.listed)
-
-module _
-    {F A S : Type 0}
-    (polled : ℕ → F → Poll (Option A) → F → Type 0)
-    (steps : SourceSteps S)
-    (marks : S → ℕ → Woke → S → Type 0)
-    (made : ℕ → S → Type 0)
-  where
-    -- one poll, or one push
-    abbrev pub HappensInGroups : Growing F S → MergeEvent F A → Growing F S → Type 0
-    HappensInGroups old (answered answer) new = GroupsPolled polled steps marks old.groups answer new.groups
-    HappensInGroups old (pushed stream) new = GrowingPushes marks made FIRST_GROUP old stream new
-
-    -- After any polls and pushes, the items that the polls returned are all that the streams held at first and the
-    -- pushed streams returned. The groups that pushes made held no stream at first, and come after the other groups.
-    abbrev pub KeepsOrderInGroupsWithPushes : Type 0
-    KeepsOrderInGroupsWithPushes = (old new : Growing F S) (events : List (MergeEvent F A))
-        → FoldsTo HappensInGroups old events new
-        → (added : List (Slots F)) × AllByRecursion HoldsNone added
-        × GroupsGaveInTurn polled (slots_of_each old.groups.listed ++ added)
-        (items_in (answers_of events)) (streams_of events) (slots_of_each new.groups.listed)
-
 module _
     {St W A S : Type 0}
     (stream : SlotStreamOf St W A)
     (source : ReadySourceOf S W)
   where
-    -- how a merge polls a group: as a bounded merge is polled; a poll that returns `None` may register the task
-    abbrev pub as_merge : AskGroupOf (Unit {0}) St S (Unit {0}) A (Unit {0}) W
-    as_merge = record {
-      can_poll = stream.can_poll;
-      asks = MergeAsks stream.polled source.steps source.marks;
-      passes = OnlyRegisters source.registers_poll;
-    }
-
     -- One poll of a growing merge, which takes the merge from `old` to `new` and the task from `cx` to `left`.
     pub record PollsMergeUnbounded
         (old : Growing St S)
@@ -112,10 +68,33 @@ module _
         (new : Growing St S)
         (cx left : Context)
         : Type 0 where
-      -- what the poll returns, where the next poll begins, whether the task is woken, where the task is registered, and
-      -- what may be polled again
-      pub groups : PollsGroups as_merge source old answer new cx left
+      -- the poll of the merge is a poll of its groups, each polled as a bounded merge is
+      pub groups : PollsGroups stream.can_poll
+          (λ is_registered. PollsMergeBounded stream (unless_registered is_registered source)) source.needs
+          old answer new cx left
       -- the poll returns `None` if and only if no stream is held after it
       pub ends : (answer ≡ Ready None) ↔ (held_in_all new.groups.listed ≡ 0)
       -- the task of a pending merge is registered for each group that holds a stream, or is woken
       pub registered : OnPending answer (Covers left (AnyNeeds source.needs new.groups.listed))
+
+    -- after any polls, the items that they returned are all that the streams returned
+    abbrev pub KeepsOrderInGroups : Type 0
+    KeepsOrderInGroups = (old new : Growing St S) (answers : List (Poll (Option A)))
+        → FoldsTo (OfSomeTask PollsMergeUnbounded) old answers new
+        → GroupsGaveInTurn stream.polled
+        (slots_of_each old.groups.listed) (items_in answers) [] (slots_of_each new.groups.listed)
+
+    module _ (made : ℕ → S → Type 0) where
+      -- one poll, or one push
+      abbrev pub HappensInGroups : Growing St S → MergeEvent St A → Growing St S → Type 0
+      HappensInGroups old (answered answer) new = OfSomeTask PollsMergeUnbounded old answer new
+      HappensInGroups old (pushed pushed_stream) new = GrowingPushes source.marks made FIRST_GROUP old pushed_stream new
+
+      -- After any polls and pushes, the items that the polls returned are all that the streams held at first and the
+      -- pushed streams returned. The groups that pushes made held no stream at first, and come after the other groups.
+      abbrev pub KeepsOrderInGroupsWithPushes : Type 0
+      KeepsOrderInGroupsWithPushes = (old new : Growing St S) (events : List (MergeEvent St A))
+          → FoldsTo HappensInGroups old events new
+          → (added : List (Slots St)) × AllByRecursion HoldsNone added
+          × GroupsGaveInTurn stream.polled (slots_of_each old.groups.listed ++ added)
+          (items_in (answers_of events)) (streams_of events) (slots_of_each new.groups.listed)

@@ -1,5 +1,5 @@
 -- One poll of the streams that a set holds, of which a merge is made.
-use Rattle.std.specs.Prelude.{◌≡◌, ℕ, ◌<◌, ◌≤◌, Bool, false, cond, IsTrue, List, Option, Some, None, IsSome, IfNone}
+use Rattle.std.specs.Prelude.{◌≡◌, ℕ, ◌<◌, ◌≤◌, Bool, true, false, IsTrue, List, Option, Some, None, IsSome, IfNone}
 use Rattle.std.specs.Prelude.{OnSome}
 use Rattle.std.specs.List.{FoldsTo}
 use Rattle.futures.specs.Poll.{IfReady, OnPending}
@@ -13,8 +13,7 @@ use Rattle.futures_buffered_core.specs.declared.ready_source.ReadySource.{Ghosts
 pub use Rattle.futures_buffered_unordered.specs.declared.slot_stream.SlotStream.{Ghosts as SlotStreamOf}
 use Rattle.futures_buffered_unordered.specs.declared.slot_stream.PollStream.{PollStream}
 use Rattle.futures_buffered_unordered.specs.FuturesUnorderedBounded.{Bounded, AsksNone, AsksUntil, MarksSlot}
-use Rattle.futures_buffered_unordered.specs.FuturesUnorderedBounded.{OnlyRegisters, held_in, slots_in, with_empty_slot}
-use Rattle.futures_buffered_unordered.specs.Groups.{WakesIf}
+use Rattle.futures_buffered_unordered.specs.FuturesUnorderedBounded.{IsWoken, OnlyRegisters, held_in, slots_in, with_empty_slot}
 use Rattle.futures_buffered_unordered.specs.Held.{AllHeld}
 use Rattle.futures_buffered_unordered.specs.declared.poll_one.PollOne.{Ghosts as PollOneOf}
 
@@ -26,11 +25,11 @@ each_stream stream = record {
   goes_on = λ o. IsSome o;
 }
 
--- the source, for a poll that registers nothing if the task is registered already
-abbrev pub unless_registered : {S W : Type 0} → Bool → ReadySourceOf S W → ReadySourceOf S W
-unless_registered is_registered source = record source {
-  registers_poll = λ s cx left. cond is_registered (left ≡ cx) (source.registers_poll s cx left);
-}
+-- What polls make of their task. If one stopped although a ready slot may be left, the task is woken; otherwise
+-- `registers` holds of the task.
+abbrev pub WakesIf : Bool → (Context → Context → Type 0) → Context → Context → Type 0
+WakesIf true registers cx left = IsWoken left
+WakesIf false registers cx left = registers cx left
 
 module _
     {F A S : Type 0}
@@ -87,8 +86,6 @@ module _
       pub held : AllHeld stream.can_poll set.slots
       -- if the task is registered already, it is registered for the source
       pub registered : IsTrue is_registered → Covers cx (source.needs set.source)
-      -- if the task is registered already, a registration may leave a source unchanged
-      pub stays : IsTrue is_registered → (s : S) → source.steps.registers s s
 
     -- One poll of a merge, which takes the merge from `old` to `new` and the task from `cx` to `left`. A clause gives
     -- streams and source by the ghost members of their types: `St.SlotStream S.ReadySource`.

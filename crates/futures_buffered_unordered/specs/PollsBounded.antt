@@ -1,7 +1,7 @@
 -- What one poll of a bounded set makes of the set and of the task that polls it. A clause names the rule and the source
 -- by the ghost members of their types: `R.PollOne S.ReadySource`, or `(itself F.SlotFuture) S.ReadySource` if each
 -- future is polled itself.
-use Rattle.std.specs.Prelude.{◌≡◌, ℕ, ◌+◌, ◌<◌, List, ◌++◌, map, length, Option, Some, None, OnSome, is_some}
+use Rattle.std.specs.Prelude.{◌≡◌, ℕ, ◌+◌, ◌<◌, Bool, cond, List, ◌++◌, map, length, Option, Some, None, OnSome, is_some}
 use Rattle.std.specs.List.{FoldsTo}
 use Rattle.std.specs.Option.{option_to_list}
 use Rattle.futures.specs.Task.{Covers, Keeps}
@@ -28,11 +28,14 @@ itself future = record {
   goes_on = λ _. ⊥;
 }
 
--- the source, if the task is already registered, so that a poll registers nothing
-abbrev pub registered : {S W : Type 0} → ReadySourceOf S W → ReadySourceOf S W
-registered source = record source {
-  steps = record { registers = λ old new. new ≡ old; takes = source.steps.takes };
-  registers_poll = λ _ cx left. left ≡ cx;
+-- the source, for a poll that registers nothing if the task is registered already
+abbrev pub unless_registered : {S W : Type 0} → Bool → ReadySourceOf S W → ReadySourceOf S W
+unless_registered is_registered source = record source {
+  steps = record {
+    registers = λ old new. cond is_registered (new ≡ old) (source.steps.registers old new);
+    takes = source.steps.takes;
+  };
+  registers_poll = λ s cx left. cond is_registered (left ≡ cx) (source.registers_poll s cx left);
 }
 
 -- How a poll without an output ends, after `count` ready slots. At Empty: no ready slot is left, and the task is as the

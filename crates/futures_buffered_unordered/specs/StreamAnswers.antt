@@ -11,6 +11,10 @@ pub use Rattle.futures.specs.declared.stream.Stream.{Ghosts as StreamOf}
 abbrev pub stream_of : {T A : Type 0} → (T → Type 0) → (T → ℕ → Type 0) → (T → Runs A) → StreamOf T A
 stream_of can_poll needs yields = record { can_poll = can_poll; needs = needs; yields = yields }
 
+-- one poll as this relation says, of some task
+abbrev pub OfSomeTask : {Q B : Type 0} → (Q → B → Q → Context → Context → Type 0) → Q → B → Q → Type 0
+OfSomeTask polls old answer new = (cx : Context) × (left : Context) × polls old answer new cx left
+
 -- One poll, which takes a stream from `old` to `new` and the task from `cx` to `left`. A clause names the stream by the
 -- ghost members of its type: `⟦<FuturesUnordered<F, S> as Stream>⟧`.
 pub record StreamAnswers

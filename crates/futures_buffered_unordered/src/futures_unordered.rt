@@ -5,17 +5,17 @@
 //! `AskGroup` says how one group is polled. One registration of the task covers all groups.
 ghost use Rattle.std.specs.Prelude.{◌≡◌, ◌↔◌, ◌<◌, ◌≤◌, ◌+◌, ◌++◌, length, take, drop, IsTrue, Err, OnOk};
 ghost use Rattle.std.specs.Prelude.{OnErr, IsErr};
-ghost use Rattle.std.specs.Prelude.{IfOk, IfErr, IfNone};
+ghost use Rattle.std.specs.Prelude.{IfOk, IfErr};
 ghost use Rattle.std.specs.List.{All};
-ghost use Rattle.futures.specs.Poll.{IfReady, OnPending};
+ghost use Rattle.futures.specs.Poll.{OnPending};
 ghost use Rattle.futures.specs.Task.{Keeps};
 ghost use Rattle.futures_buffered_core.specs.Drawn.{IsFiniteSource, items_of};
 ghost use Rattle.futures_buffered_core.specs.Answer.{RefusesTooLarge};
 ghost use Rattle.futures_buffered_core.specs.Made.{MakesGroup, MakesSlots};
 ghost use Rattle.futures_buffered_core.specs.ReadyShared.{IsNewShared};
 ghost use Rattle.futures_buffered_core.specs.ReadySource.{WaitsAlike};
-ghost use Rattle.futures_buffered_unordered.specs.FuturesUnorderedBounded.{IsNewSet, OnlyRegisters};
-ghost use Rattle.futures_buffered_unordered.specs.GroupsStep.{AsksNext, next_place};
+ghost use Rattle.futures_buffered_unordered.specs.FuturesUnorderedBounded.{IsNewSet};
+ghost use Rattle.futures_buffered_unordered.specs.Groups.{AsksOne, next_place};
 ghost use Rattle.futures_buffered_unordered.specs.FuturesUnordered.{EachHeld, EachCovered, Growing};
 ghost use Rattle.futures_buffered_unordered.specs.FuturesUnordered.{GrowingPushes};
 ghost use Rattle.futures_buffered_unordered.specs.FuturesUnordered.{IsAtBound, IsNewGrowing};
@@ -334,14 +334,13 @@ impl<F: Drop, S: NewSource, K> GrowingSet<F, S, K> {
         requires pollable { EachHeld R.can_poll self.old.groups.listed }
         requires registered { IsTrue is_registered →
             EachCovered S.needs cx.old self.old.groups.listed }
-        ensures asked { AsksNext R.asks (OnlyRegisters S.registers_poll)
+        ensures asked { AsksOne (R.asks is_registered)
             self.old.groups result self.new.groups cx.old cx.new }
         ensures limit { self.new.limit ≡ self.old.limit }
         ensures pollable { EachHeld R.can_poll self.new.groups.listed }
         ensures covered { OnPending result (EachCovered S.needs cx.new self.new.groups.listed) }
         ensures still_covered { IsTrue is_registered →
             EachCovered S.needs cx.new self.new.groups.listed }
-        ensures passes { IfReady result (λ o. IfNone o (R.passes cx.old cx.new)) }
         ensures kept { Keeps cx.old cx.new }
     {
         let place = self.next_place();
@@ -376,8 +375,7 @@ impl<F: Drop, S: NewSource, K> GrowingSet<F, S, K> {
         cx: &mut Context<'_>,
     ) -> Poll<Option<R::Output>>
         requires { EachHeld R.can_poll self.old.groups.listed }
-        ensures { PollsGroups R.AskGroup S.ReadySource
-            self.old result self.new cx.old cx.new }
+        ensures { PollsGroups R.can_poll R.asks S.needs self.old result self.new cx.old cx.new }
     {
         let mut is_registered = false;
         for _asked in 0..self.groups.len() {

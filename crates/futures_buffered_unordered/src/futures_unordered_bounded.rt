@@ -3,7 +3,7 @@
 //! Each future is in a slot. A push marks its slot, and a waker of the future marks it again. A poll takes marked slots
 //! from the set's source, at most as many as its limit, and polls their futures until one is ready. A slot that is not
 //! marked costs nothing.
-ghost use Rattle.std.specs.Prelude.{◌≡◌, ◌<◌, ◌≤◌, ◌+◌, ◌==◌, ◌↔◌, IfOk, IsSome, IsTrue};
+ghost use Rattle.std.specs.Prelude.{◌≡◌, ◌<◌, ◌≤◌, ◌+◌, ◌==◌, ◌↔◌, IfOk, IsSome, IsTrue, true};
 ghost use Rattle.futures_buffered_core.specs.Drawn.{IsFiniteSource, items_of};
 ghost use Rattle.futures_buffered_core.specs.Made.{MakesSlots};
 ghost use Rattle.futures_buffered_core.specs.ReadyShared.{IsNewShared, MarksShared};
@@ -14,7 +14,7 @@ ghost use Rattle.futures_buffered_unordered.specs.FuturesUnorderedBounded.{Holds
 ghost use Rattle.futures_buffered_unordered.specs.FuturesUnorderedBounded.{PushesOne, emptied, slots_in};
 ghost use Rattle.futures_buffered_unordered.specs.FuturesUnorderedBounded.{with_empty_slot};
 ghost use Rattle.futures_buffered_unordered.specs.PollsBounded.{CanPollRegistered, PollsBounded};
-ghost use Rattle.futures_buffered_unordered.specs.PollsBounded.{RegistersAndTakes, TakesNames, registered};
+ghost use Rattle.futures_buffered_unordered.specs.PollsBounded.{RegistersAndTakes, TakesNames, unless_registered};
 ghost use Rattle.futures_buffered_unordered.specs.Extended.{Extends, MakesFull};
 
 use crate::poll_one::PollOne;
@@ -375,7 +375,7 @@ impl<F: Drop, S: ReadySource> FuturesUnorderedBounded<F, S> {
         cx: &mut Context<'_>,
     ) -> Poll<Option<R::Output>>
         requires { CanPollRegistered R.PollOne S.ReadySource self.old cx.old }
-        ensures { PollsBounded R.PollOne (registered S.ReadySource)
+        ensures { PollsBounded R.PollOne (unless_registered true S.ReadySource)
             self.old result self.new cx.old cx.new }
     {
         if self.is_empty() {

@@ -6,10 +6,10 @@
 ghost use Rattle.std.specs.Prelude.{◌≡◌, ◌↔◌, ◌≤◌};
 ghost use Rattle.futures_buffered_core.specs.Drawn.{IsFiniteSource, items_of};
 ghost use Rattle.futures_buffered_core.specs.ReadyShared.{IsNewShared, MarksShared};
-ghost use Rattle.futures_buffered_unordered.specs.FuturesUnorderedBounded.{OnlyRegisters};
 ghost use Rattle.futures_buffered_unordered.specs.FuturesUnordered.{EachHeld, AnyNeeds, GrowingPushes};
 ghost use Rattle.futures_buffered_unordered.specs.FuturesUnordered.{MakesPushed, no_groups, held_in_all};
-ghost use Rattle.futures_buffered_unordered.specs.Merging.{MergeAsks};
+ghost use Rattle.futures_buffered_unordered.specs.PollsBounded.{unless_registered};
+ghost use Rattle.futures_buffered_unordered.specs.Merging.{PollsMergeBounded};
 ghost use Rattle.futures_buffered_unordered.specs.MergeUnbounded.{ItemsComeFromGroups, KeepsOrderInGroups};
 ghost use Rattle.futures_buffered_unordered.specs.MergeUnbounded.{KeepsOrderInGroupsWithPushes};
 ghost use Rattle.futures_buffered_unordered.specs.MergeUnbounded.{PollsMergeUnbounded};
@@ -37,16 +37,12 @@ pub type MergeUnbounded<St, S = SharedReady> = GrowingSet<St, S, OfStreams>;
 struct AsMerge;
 
 impl<St: SlotStream<S::Waker>, S: NewSource> AskGroup<St, S, OfStreams> for AsMerge {
-    ghost use Rattle.futures_buffered_unordered.specs.FuturesUnorderedBounded.{registers_more, registers_none};
-    ghost use Rattle.std.proofs.Common.{refl};
-
     type Output = St::Item;
 
     ghost can_poll = { St.can_poll };
 
-    ghost asks = { MergeAsks St.polled S.steps S.marks };
-
-    ghost passes = { OnlyRegisters S.registers_poll };
+    ghost asks = { λ is_registered. PollsMergeBounded St.SlotStream
+        (unless_registered is_registered S.ReadySource) };
 
     fn ask(
         &self,
@@ -56,10 +52,6 @@ impl<St: SlotStream<S::Waker>, S: NewSource> AskGroup<St, S, OfStreams> for AsMe
     ) -> Poll<Option<St::Item>> {
         poll_streams(group, cx, is_registered)
     }
-
-    ghost passes_none = { λ cx. registers_none S.registers_poll cx cx refl };
-
-    ghost passes_more = { registers_more S.registers_poll };
 }
 
 impl<St: Drop, S: NewSource> MergeUnbounded<St, S> {
@@ -179,7 +171,7 @@ impl<St: Drop, S: NewSource> fmt::Debug for MergeUnbounded<St, S> {
 ///
 /// This is a law of the relation in the contract of a poll. Its body is empty.
 pub fn polls_keep_order<St: SlotStream<S::Waker>, S: NewSource>()
-    ensures { KeepsOrderInGroups St.polled S.steps S.marks }
+    ensures { KeepsOrderInGroups St.SlotStream S.ReadySource }
 {}
 
 /// Says the same of polls with pushes between them: the items are those of the streams that were held at first or
@@ -188,5 +180,5 @@ pub fn polls_keep_order<St: SlotStream<S::Waker>, S: NewSource>()
 ///
 /// This is a law of the relations in the contracts of a push and of a poll. Its body is empty.
 pub fn polls_and_pushes_keep_order<St: SlotStream<S::Waker>, S: NewSource>()
-    ensures { KeepsOrderInGroupsWithPushes St.polled S.steps S.marks S.made }
+    ensures { KeepsOrderInGroupsWithPushes St.SlotStream S.ReadySource S.made }
 {}

@@ -1,9 +1,8 @@
 //! One poll of the streams that a bounded merge holds.
 ghost use Rattle.std.specs.Prelude.{◌<◌};
 ghost use Rattle.futures_buffered_unordered.specs.FuturesUnorderedBounded.{held_in};
-ghost use Rattle.futures_buffered_unordered.specs.PollsBounded.{RegistersAndTakes};
+ghost use Rattle.futures_buffered_unordered.specs.PollsBounded.{RegistersAndTakes, unless_registered};
 ghost use Rattle.futures_buffered_unordered.specs.Merging.{CanAsk, CountPolls, PollsMergeBounded, each_stream};
-ghost use Rattle.futures_buffered_unordered.specs.Merging.{unless_registered};
 
 use crate::merge_bounded::MergeBounded;
 use crate::slot_stream::{PollStream, SlotStream};

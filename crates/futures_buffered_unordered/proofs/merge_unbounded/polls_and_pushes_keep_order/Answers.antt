@@ -2,4 +2,4 @@ use Rattle.futures_buffered_unordered.proofs.MergeUnboundedPushesLemmas.{keeps_o
 use Rattle.futures_buffered_unordered.proofs.merge_unbounded.polls_and_pushes_keep_order.Goals as goal
 
 pub returns : goal.returns
-returns g c = keeps_order_in_groups_with_pushes g.St.SlotStream.polled g.S.ReadySource.steps g.S.ReadySource.marks g.S.NewSource.made
+returns g c = keeps_order_in_groups_with_pushes g.St.SlotStream g.S.ReadySource g.S.NewSource.made

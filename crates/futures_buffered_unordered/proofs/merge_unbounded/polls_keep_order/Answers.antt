@@ -2,4 +2,4 @@ use Rattle.futures_buffered_unordered.proofs.MergeUnboundedGaveLemmas.{keeps_ord
 use Rattle.futures_buffered_unordered.proofs.merge_unbounded.polls_keep_order.Goals as goal
 
 pub returns : goal.returns
-returns g c = keeps_order_in_groups g.St.SlotStream.polled g.S.ReadySource.steps g.S.ReadySource.marks
+returns g c = keeps_order_in_groups g.St.SlotStream g.S.ReadySource

@@ -1,6 +1,6 @@
 use Rattle.std.proofs.Common.{arith, rules}
 use Rattle.std.proofs.lemmas.Grind.{common_steps}
-use Rattle.futures_buffered_unordered.specs.Merging.{unless_registered}
+use Rattle.futures_buffered_unordered.specs.PollsBounded.{unless_registered}
 use Rattle.futures_buffered_unordered.proofs.MergingLemmas.{count_item, count_end, count_pending}
 use Rattle.futures_buffered_unordered.proofs.merging.poll_count.Goals as goal
 

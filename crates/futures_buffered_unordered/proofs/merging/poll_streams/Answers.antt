@@ -1,5 +1,5 @@
 use Rattle.std.proofs.Common.{rules}
-use Rattle.futures_buffered_unordered.specs.Merging.{unless_registered}
+use Rattle.futures_buffered_unordered.specs.PollsBounded.{unless_registered}
 use Rattle.futures_buffered_unordered.proofs.MergingLemmas.{polls_none}
 use Rattle.futures_buffered_unordered.proofs.merging.poll_streams.Goals as goal
 

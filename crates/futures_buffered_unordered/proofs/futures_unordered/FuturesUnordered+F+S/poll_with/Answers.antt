@@ -5,12 +5,12 @@ use Rattle.futures_buffered_unordered.proofs.futures_unordered.FuturesUnordered+
 
 pub returns : goal.returns
 returns g c =
-    let polled = g.R.PollOne.polled in
-    let steps = g.S.ReadySource.steps in
+    let rule = g.R.PollOne in
+    let source = g.S.ReadySource in
     let poll = c.poll_groups.ensures in
     record {
       groups = grind arith;
-      ends = ends_of polled steps _ _ _ _ poll.gave;
-      count = count_of polled steps _ _ _ _ poll.gave;
-      registered = covered_of g.S.ReadySource.needs c.poll_groups.new.cx c.poll_groups.result c.poll_groups.new.self.groups.listed poll.covered (held_of polled steps _ _ _ _ poll.gave);
+      ends = ends_of rule source _ _ _ _ _ poll.gave;
+      count = count_of rule source _ _ _ _ _ poll.gave;
+      registered = covered_of source.needs c.poll_groups.new.cx c.poll_groups.result c.poll_groups.new.self.groups.listed poll.covered (held_of rule source _ _ _ _ _ poll.gave);
     }

@@ -43,52 +43,48 @@ invariant_of-self-else-place-len g c =
 
 pub returns-in-Pending-clause-asked : goal.returns-in-Pending-clause-asked
 returns-in-Pending-clause-asked g c =
-    let polls = c.ask-answer.ensures.polls in
     let at = rw (← c.self.view_is) at c.next_place-place.ensures in
-    rw (← c.self.view_is) (record { stopped = polls.stopped; asked = one_pending (g.R.AskGroup.asks polls.stopped) _ _ _ _ _ c.in-Pending.is at.value at.below c.index_mut-group.ensures.value polls.asked; woken = polls.woken })
+    rw (← c.self.view_is) (one_pending (g.R.AskGroup.asks c.args.is_registered) _ _ _ _ _ _ _ c.in-Pending.is at.value at.below c.index_mut-group.ensures.value c.ask-answer.ensures.polls)
 
 pub returns-in-Pending-clause-still_covered : goal.returns-in-Pending-clause-still_covered
 returns-in-Pending-clause-still_covered g c =
     let at = rw (← c.self.view_is) at c.next_place-place.ensures in
-    λ registered. still_asked g.S.ReadySource.needs _ _ _ _ _ _ _ c.self.invariant at.value at.below c.index_mut-group.ensures.value c.ask-answer.ensures.keeps _ _ c.ask-answer.ensures.polls.kept (rw (← c.self.view_is) at (c.requires.registered registered))
+    λ registered. still_asked g.S.ReadySource.needs _ _ _ _ _ _ _ c.self.invariant at.value at.below c.index_mut-group.ensures.value c.ask-answer.ensures.keeps _ _ c.ask-answer.ensures.kept (rw (← c.self.view_is) at (c.requires.registered registered))
 
 pub returns-then-is_some-clause-asked : goal.returns-then-is_some-clause-asked
 returns-then-is_some-clause-asked g c =
-    let polls = c.ask-answer.ensures.polls in
     let at = rw (← c.self.view_is) at c.next_place-place.ensures in
-    rw (← c.self.view_is) (record { stopped = polls.stopped; asked = one_some (g.R.AskGroup.asks polls.stopped) _ _ _ _ _ _ c.in-Ready.is (search rules) at.value at.below c.index_mut-group.ensures.value polls.asked; woken = polls.woken })
+    rw (← c.self.view_is) (one_some (g.R.AskGroup.asks c.args.is_registered) _ _ _ _ _ _ _ _ c.in-Ready.is (search rules) at.value at.below c.index_mut-group.ensures.value c.ask-answer.ensures.polls)
 
 pub returns-then-is_some-clause-still_covered : goal.returns-then-is_some-clause-still_covered
 returns-then-is_some-clause-still_covered g c =
     let at = rw (← c.self.view_is) at c.next_place-place.ensures in
-    λ registered. still_asked g.S.ReadySource.needs _ _ _ _ _ _ _ c.self.invariant at.value at.below c.index_mut-group.ensures.value c.ask-answer.ensures.keeps _ _ c.ask-answer.ensures.polls.kept (rw (← c.self.view_is) at (c.requires.registered registered))
+    λ registered. still_asked g.S.ReadySource.needs _ _ _ _ _ _ _ c.self.invariant at.value at.below c.index_mut-group.ensures.value c.ask-answer.ensures.keeps _ _ c.ask-answer.ensures.kept (rw (← c.self.view_is) at (c.requires.registered registered))
 
 pub returns-then-place-len-clause-asked : goal.returns-then-place-len-clause-asked
 returns-then-place-len-clause-asked g c =
-    let polls = c.ask-answer.ensures.polls in
     let at = rw (← c.self.view_is) at c.next_place-place.ensures in
-    rw (← c.self.view_is) (record { stopped = polls.stopped; asked = one_last (g.R.AskGroup.asks polls.stopped) _ _ _ _ _ _ c.in-Ready.is (search rules) at.value at.below (search rules) c.index_mut-group.ensures.value polls.asked; woken = polls.woken })
+    rw (← c.self.view_is) (one_last (g.R.AskGroup.asks c.args.is_registered) _ _ _ _ _ _ _ _ c.in-Ready.is (search rules) at.value at.below (search rules) c.index_mut-group.ensures.value c.ask-answer.ensures.polls)
 
 pub returns-then-place-len-clause-still_covered : goal.returns-then-place-len-clause-still_covered
 returns-then-place-len-clause-still_covered g c =
     let at = rw (← c.self.view_is) at c.next_place-place.ensures in
-    λ registered. still_asked g.S.ReadySource.needs _ _ _ _ _ _ _ c.self.invariant at.value at.below c.index_mut-group.ensures.value c.ask-answer.ensures.keeps _ _ c.ask-answer.ensures.polls.kept (rw (← c.self.view_is) at (c.requires.registered registered))
+    λ registered. still_asked g.S.ReadySource.needs _ _ _ _ _ _ _ c.self.invariant at.value at.below c.index_mut-group.ensures.value c.ask-answer.ensures.keeps _ _ c.ask-answer.ensures.kept (rw (← c.self.view_is) at (c.requires.registered registered))
 
 pub returns-else-place-len-clause-asked : goal.returns-else-place-len-clause-asked
 returns-else-place-len-clause-asked g c =
-    let polls = c.ask-answer.ensures.polls in
     let at = rw (← c.self.view_is) at c.next_place-place.ensures in
-    rw (← c.self.view_is) (record { stopped = polls.stopped; asked = one_left (g.R.AskGroup.asks polls.stopped) _ _ _ _ _ _ _ c.in-Ready.is (search rules) at.value at.below (search rules) c.index_mut-group.ensures.value polls.asked c.drop_group.ensures; woken = polls.woken })
+    rw (← c.self.view_is) (one_left (g.R.AskGroup.asks c.args.is_registered) _ _ _ _ _ _ _ _ _ c.in-Ready.is (search rules) at.value at.below (search rules) c.index_mut-group.ensures.value c.ask-answer.ensures.polls c.drop_group.ensures)
 
 pub returns-else-place-len-clause-still_covered : goal.returns-else-place-len-clause-still_covered
 returns-else-place-len-clause-still_covered g c =
     let at = rw (← c.self.view_is) at c.next_place-place.ensures in
-    λ registered. rw c.drop_group.ensures (All-removed (λ (b : Bounded g.row.F.Denot g.row.S.Denot). Covers c.ask-answer.new.cx (g.S.ReadySource.needs b.source)) _ c.next_place-place.result (still_asked g.S.ReadySource.needs _ _ _ _ _ _ _ c.self.invariant at.value at.below c.index_mut-group.ensures.value c.ask-answer.ensures.keeps _ _ c.ask-answer.ensures.polls.kept (rw (← c.self.view_is) at (c.requires.registered registered))))
+    λ registered. rw c.drop_group.ensures (All-removed (λ (b : Bounded g.row.F.Denot g.row.S.Denot). Covers c.ask-answer.new.cx (g.S.ReadySource.needs b.source)) _ c.next_place-place.result (still_asked g.S.ReadySource.needs _ _ _ _ _ _ _ c.self.invariant at.value at.below c.index_mut-group.ensures.value c.ask-answer.ensures.keeps _ _ c.ask-answer.ensures.kept (rw (← c.self.view_is) at (c.requires.registered registered))))
 
 pub returns-in-Pending-clause-covered : goal.returns-in-Pending-clause-covered
 returns-in-Pending-clause-covered g c =
     let at = rw (← c.self.view_is) at c.next_place-place.ensures in
-    let covered = rw c.in-Pending.is at c.ask-answer.ensures.polls.covered in
+    let covered = rw c.in-Pending.is at c.ask-answer.ensures.covered in
     rw c.in-Pending.is (covered_asked g.S.ReadySource.needs _ _ _ _ _ _ _ c.self.invariant at.value at.below c.index_mut-group.ensures.value c.ask-answer.ensures.keeps _ covered)
 
 pub returns-else-place-len-clause-pollable : goal.returns-else-place-len-clause-pollable

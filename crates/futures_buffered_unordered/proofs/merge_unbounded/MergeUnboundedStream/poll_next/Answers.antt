@@ -9,6 +9,6 @@ returns g c =
     let poll = c.poll_groups.ensures in
     record {
       groups = grind arith;
-      ends = ends_of g.St.SlotStream.polled source.steps source.marks _ _ _ _ poll.gave;
-      registered = covered_of source.needs c.poll_groups.new.cx c.poll_groups.result c.poll_groups.new.self.groups.listed poll.covered (held_of g.St.SlotStream.polled source.steps source.marks _ _ _ _ poll.gave);
+      ends = ends_of g.St.SlotStream source _ _ _ _ _ poll.gave;
+      registered = covered_of source.needs c.poll_groups.new.cx c.poll_groups.result c.poll_groups.new.self.groups.listed poll.covered (held_of g.St.SlotStream source _ _ _ _ _ poll.gave);
     }
