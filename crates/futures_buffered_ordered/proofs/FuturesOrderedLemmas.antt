@@ -1,33 +1,32 @@
 -- How many futures with a number a set that grows holds, before and after its calls.
-use Rattle.std.proofs.Common.{◌≡◌, ℕ, ◌+◌, Bool, [], Option, Some, ap, inl, inr, arith, ◌∙◌}
-use Rattle.std.specs.List.{sum_by}
+use Rattle.std.proofs.Common.{◌≡◌, ℕ, ◌+◌, [], Option, Some, None, refl, ap, inl, inr, arith, ◌∙◌}
 use Rattle.std.proofs.lemmas.List.Sums.{sum_by-cons}
 use Rattle.futures.specs.declared.task.context.Context.{Context}
 use Rattle.futures.specs.declared.task.Poll.{Poll}
 use Rattle.futures.specs.declared.task.Poll.TheVariants.{Ready}
-use Rattle.futures_buffered_core.specs.ReadySource.{SourceSteps}
-use Rattle.futures_buffered_unordered.specs.FuturesUnorderedBounded.{Bounded, PollAsks, held_in}
-use Rattle.futures_buffered_unordered.specs.Groups.{Groups, GroupsGive}
+use Rattle.futures_buffered_unordered.specs.FuturesUnorderedBounded.{held_in}
 use Rattle.futures_buffered_unordered.specs.FuturesUnordered.{AnyNeeds, Growing, IsNewGrowing, held_in_all}
 use Rattle.futures_buffered_core.specs.declared.ready_source.ReadySource.{Ghosts as ReadySourceOf}
 use Rattle.futures_buffered_unordered.specs.declared.poll_one.PollOne.{Ghosts as PollOneOf}
+use Rattle.futures_buffered_unordered.specs.PollsBounded.{unless_registered}
 use Rattle.futures_buffered_unordered.specs.PollsGrowing.{PollsGrowing}
+use Rattle.futures_buffered_unordered.specs.StreamAnswers.{OfSomeTask}
 use Rattle.futures_buffered_unordered.proofs.FuturesUnorderedLemmas.{new_holds_none}
-use Rattle.futures_buffered_unordered.proofs.FuturesUnorderedStreamLemmas.{asked_gives, gave, still}
-use Rattle.futures_buffered_unordered.proofs.FuturesUnorderedPollLemmas.{sum_left}
-use Rattle.futures_buffered_ordered.specs.Numbered.{NumberedPollsOf, PollsNumbered, held_with, of_numbered, outputs_with}
+use Rattle.futures_buffered_unordered.proofs.FuturesUnorderedStreamLemmas.{PollsOneGroup, gave, group_gives, still}
+use Rattle.futures_buffered_unordered.proofs.GroupsLemmas.{turns_sum}
+use Rattle.futures_buffered_ordered.specs.Numbered.{NumberedPollsOf, held_with, of_numbered, outputs_with}
 use Rattle.futures_buffered_ordered.specs.OrderedEntries.{OrderedGives, PollsOrdered}
 use Rattle.futures_buffered_ordered.specs.declared.numbered.Numbered.{Numbered}
-use Rattle.futures_buffered_ordered.proofs.NumberedLemmas.{numbers_polled, numbers_ended, numbers_none, brings_none}
+use Rattle.futures_buffered_ordered.proofs.NumberedLemmas.{numbers_polled, numbers_ended, numbers_none}
 use Rattle.futures_buffered_ordered.specs.FuturesOrdered.{held_in_groups, held_in_groups_with, EachInProgress, GrowingMayGive, OrderedGrowing, SameLimit}
 use Rattle.futures_buffered_ordered.proofs.OrderedEntriesLemmas.{gives_alone}
 
-module _ {F A S : Type 0} (i : ℕ) (polled : ℕ → F → Poll A → F → Type 0) (steps : SourceSteps S) where
+module _ {R F W A S : Type 0} (rule : PollOneOf R F W A) (source : ReadySourceOf S W) where
   -- one poll of all groups
-  pub numbers_left : (old new : Groups (Bounded (Numbered F) S)) (stopped : Bool) (answer : Poll (Option (ℕ × A))) → GroupsGive (PollAsks (PollsNumbered polled) steps) old answer stopped new → sum_by (held_with i) new.listed + outputs_with i answer ≡ sum_by (held_with i) old.listed
-  numbers_left old new stopped answer h =
-      let gives = asked_gives (PollsNumbered polled) steps in
-      sum_left (PollAsks (PollsNumbered polled) steps) (held_with i) (outputs_with i) (λ b group left a asked. numbers_polled i polled steps group left a (gives b group left a asked)) (λ b group left asked. numbers_ended i polled steps group left asked.0) (brings_none i polled steps) old new stopped answer h
+  pub numbers_left : (i : ℕ) (old new : Growing (Numbered F) S) (answer : Poll (Option (ℕ × A))) (cx left : Context) → PollsGrowing (of_numbered rule) source old answer new cx left → held_in_groups_with i new + outputs_with i answer ≡ held_in_groups_with i old
+  numbers_left i old new answer cx left poll =
+      let polled = of_numbered rule in
+      turns_sum (PollsOneGroup polled source) (held_with i) (outputs_with i) (λ b group after a c d it. numbers_polled i rule.polled (unless_registered b source).steps group after a (group_gives polled source b group after a c d it)) (λ b group after c d it. numbers_ended i rule.polled (unless_registered b source).steps group after (group_gives polled source b group after (Ready None) c d it)) refl refl _ _ old.groups answer new.groups cx left poll.groups.gave
 
 module _ {F S : Type 0} (made : ℕ → S → Type 0) (n limit : ℕ) (start : Growing (Numbered F) S) where
   -- a new set holds nothing
@@ -39,17 +38,17 @@ module _ {F S : Type 0} (made : ℕ → S → Type 0) (n limit : ℕ) (start : G
   new_held (inl h) = ap (λ (g : Growing (Numbered F) S). held_in_all g.groups.listed) h.1
   new_held (inr h) = ap (λ (g : Growing (Numbered F) S). held_in_all g.groups.listed) h.1.2 ∙ omega (arith, sum_by-cons held_in h.1.0 [], (new_holds_none made n limit h.1.0 h.1.1).0)
 
-module _ {F A S : Type 0} (polled : ℕ → F → Poll A → F → Type 0) (steps : SourceSteps S) where
-  -- one poll of the groups, told of them alone
+module _ {R F W A S : Type 0} (rule : PollOneOf R F W A) (source : ReadySourceOf S W) where
+  -- one poll of the set, told of the set alone
   abbrev pub GroupsAlone : Growing (Numbered F) S → Poll (Option (ℕ × A)) → Growing (Numbered F) S → Type 0
-  GroupsAlone old answer new = (stopped : Bool) × GroupsGive (PollAsks (PollsNumbered polled) steps) old.groups answer stopped new.groups
+  GroupsAlone = OfSomeTask (PollsGrowing (of_numbered rule) source)
 
   -- what the set gave it might give, and what it may still give it might give before
-  pub groups_gave : (old new : Growing (Numbered F) S) (out : ℕ × A) → GroupsAlone old (Ready (Some out)) new → GrowingMayGive polled old out
-  groups_gave old new out h = gave (PollsNumbered polled) steps old.groups new.groups h.0 out h.1
+  pub groups_gave : (old new : Growing (Numbered F) S) (out : ℕ × A) → GroupsAlone old (Ready (Some out)) new → GrowingMayGive rule.polled old out
+  groups_gave old new out (cx, left, poll) = gave (of_numbered rule) source old.groups new.groups cx left out poll.groups.gave
 
-  pub groups_still : (old new : Growing (Numbered F) S) (answer : Poll (Option (ℕ × A))) → GroupsAlone old answer new → (z : ℕ × A) → GrowingMayGive polled new z → GrowingMayGive polled old z
-  groups_still old new answer h z = still (PollsNumbered polled) steps old.groups new.groups h.0 answer h.1 z
+  pub groups_still : (old new : Growing (Numbered F) S) (answer : Poll (Option (ℕ × A))) → GroupsAlone old answer new → (z : ℕ × A) → GrowingMayGive rule.polled new z → GrowingMayGive rule.polled old z
+  groups_still old new answer (cx, left, poll) z = still (of_numbered rule) source old.groups new.groups cx left answer poll.groups.gave z
 
 module _ {R F W A S : Type 0} (rule : PollOneOf R F W A) (source : ReadySourceOf S W) where
   -- how the set of a queue is polled, where `rule` says how one future is
@@ -61,5 +60,5 @@ module _ {R F W A S : Type 0} (rule : PollOneOf R F W A) (source : ReadySourceOf
   }
 
   -- one poll of the queue, told of it alone
-  pub queue_gives_of : (old new : OrderedGrowing F A S) (answer : Poll (Option A)) (cx left : Context) → PollsOrdered held_in_groups SameLimit growing_polls old answer new cx left → OrderedGives (GroupsAlone rule.polled source.steps) held_in_groups old answer new
-  queue_gives_of old new answer cx left poll = gives_alone (PollsGrowing (of_numbered rule) source) (GroupsAlone rule.polled source.steps) (λ a b given before after h. (h.groups.stopped, h.groups.gave)) held_in_groups old new answer cx left poll.gave
+  pub queue_gives_of : (old new : OrderedGrowing F A S) (answer : Poll (Option A)) (cx left : Context) → PollsOrdered held_in_groups SameLimit growing_polls old answer new cx left → OrderedGives (GroupsAlone rule source) held_in_groups old answer new
+  queue_gives_of old new answer cx left poll = gives_alone (PollsGrowing (of_numbered rule) source) (GroupsAlone rule source) (λ a b given before after h. (before, after, h)) held_in_groups old new answer cx left poll.gave

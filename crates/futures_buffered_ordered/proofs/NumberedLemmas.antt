@@ -12,7 +12,6 @@ use Rattle.futures_buffered_table.specs.declared.answer.Woke.{Woke}
 use Rattle.futures_buffered_core.specs.ReadySource.{SourceSteps}
 use Rattle.futures_buffered_unordered.specs.Held.{Passes, Yields}
 use Rattle.futures_buffered_unordered.specs.FuturesUnorderedBounded.{Bounded, Pushes, PollGives}
-use Rattle.futures_buffered_unordered.specs.Groups.{NoOutput}
 use Rattle.futures_buffered_unordered.proofs.HeldLemmas.{value_in-with_value}
 use Rattle.futures_buffered_ordered.specs.Numbered.{PollsNumbered, has_number, held_with, one_at, outputs_with}
 use Rattle.futures_buffered_ordered.specs.declared.numbered.Numbered.{Numbered}
@@ -114,11 +113,6 @@ module _ {F A S : Type 0} (i : ℕ) (polled : ℕ → F → Poll A → F → Typ
 
   pub numbers_ended : (group left : Bounded (Numbered F) S) → PollGives (PollsNumbered polled) steps group (Ready None) left → held_with i left ≡ 0
   numbers_ended group left h = ap (λ (b : Bounded (Numbered F) S). held_with i b) h.1 ∙ none_held i group.slots h.0
-
-  pub brings_none : (answer : Poll (Option (ℕ × A))) → NoOutput answer → outputs_with i answer ≡ 0
-  brings_none Pending h = refl
-  brings_none (Ready None) h = refl
-  brings_none (Ready (Some out)) h = absurd h
 
 module _ {F S : Type 0} (i : ℕ) where
   -- a push brings one

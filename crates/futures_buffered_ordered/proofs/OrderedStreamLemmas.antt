@@ -24,4 +24,4 @@ module _ {R F W A S : Type 0} (rule : PollOneOf R F W A) (source : ReadySourceOf
   pub growing_answers : (old new : OrderedGrowing F A S) (answer : Poll (Option A)) (cx left : Context) → PollsOrdered held_in_groups SameLimit (growing_polls rule source) old answer new cx left
       → StreamAnswers (stream_of (λ q. EachInProgress rule.can_poll q.set) (λ q. AnyNeeds source.needs q.set.groups.listed) (ComesInOrder (GrowingMayGive rule.polled))) old answer new cx left
   growing_answers old new answer cx left it =
-      queue_answers (GroupsAlone rule.polled source.steps) (GrowingMayGive rule.polled) (groups_still rule.polled source.steps) (groups_gave rule.polled source.steps) held_in_groups old new _ _ answer cx left (growing_gives_of rule source old new answer cx left it) it.queue.pollable it.queue.covered it.queue.kept
+      queue_answers (GroupsAlone rule source) (GrowingMayGive rule.polled) (groups_still rule source) (groups_gave rule source) held_in_groups old new _ _ answer cx left (growing_gives_of rule source old new answer cx left it) it.queue.pollable it.queue.covered it.queue.kept

@@ -66,9 +66,10 @@ pub record AsksOne
   pub leaves : LeavesBetween
       (take (next_place old) old.listed) (drop (next_place old + 1) old.listed) group_left answer new
 
--- A poll of groups, of which `n` are still to be polled. `is_registered` says whether a group polled before them was
--- pending. The group at the next place is polled, and is told so: an output is the result; after Pending or `None` the
--- next group's turn comes. After the last turn the result is `Pending` if a group was pending, otherwise `None`.
+-- A poll of groups, of which `n` are still to be polled. `is_registered` says whether a group polled before them is
+-- pending, so that the task is registered already. The group at the next place is polled. An output is the result.
+-- After Pending or `None` the poll continues with the next group. After `n` groups without an output the result is
+-- `Pending` if a group is pending, otherwise `None`.
 abbrev pub AsksInTurn : {X A : Type 0} → (Bool → X → Poll (Option A) → X → Context → Context → Type 0) → ℕ → Bool
     → Groups X → Poll (Option A) → Groups X → Context → Context → Type 0
 AsksInTurn asks zero is_registered old answer new cx left =
