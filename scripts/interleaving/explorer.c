@@ -16,7 +16,7 @@ struct event events[MOST_STEPS];
 uint32_t depth;
 enum outcome outcome;
 char reason[300];
-struct request request = {.most = ~0ull, .seconds = 1e9, .preemptions = ~0u};
+struct request request;
 
 static uint64_t executions, cut, unfair, longest, most_threads, blocks_at_first = ~0ull;
 static char *words_at_first;
@@ -243,46 +243,25 @@ static int explore(void) {
     }
 }
 
-static int refuse_words(void) {
-    printf("usage: [--most N] [--seconds N] [--wrong N] races|states|plain|preemptions P|replay SCHEDULE WORD..\n");
-    return 2;
-}
-
-static int read_option(char **at) {
-    if (!at[1]) return 0;
-    if (!strcmp(at[0], "--most")) request.most = strtoull(at[1], NULL, 10);
-    else if (!strcmp(at[0], "--seconds")) request.seconds = atof(at[1]);
-    else if (!strcmp(at[0], "--wrong")) request.wrong = atoi(at[1]);
-    else return 0;
-    return 1;
-}
-
-// How many words say the way, or 0 if they say none.
-static int read_way(char **at, int left) {
-    static const struct { const char *name; enum way way; int words; } ways[] = {
-        {"races", RACES, 1}, {"states", STATES, 1}, {"plain", PLAIN, 1}, {"preemptions", PREEMPTIONS, 2}, {"replay", REPLAY, 2}};
-    for (unsigned k = 0; k < sizeof ways / sizeof *ways; k++) {
-        if (strcmp(at[0], ways[k].name) || left < ways[k].words) continue;
-        request.way = ways[k].way;
-        if (request.way == PREEMPTIONS) request.preemptions = (uint32_t)atoi(at[1]);
-        if (request.way == REPLAY) request.schedule = at[1], read_schedule();
-        return ways[k].words;
-    }
-    return 0;
+// ORDERS SECONDS WRONG WAY BOUND WORD..: BOUND is that of preemptions, or the schedule to replay, or nothing.
+static int read_words(int count, char **given) {
+    static const char *const ways[] = {"races", "states", "plain", "preemptions", "replay"};
+    if (count < 6) return 0;
+    request.most = strtoull(given[1], NULL, 10);
+    request.seconds = atof(given[2]);
+    request.wrong = atoi(given[3]);
+    while (request.way <= REPLAY && strcmp(given[4], ways[request.way])) request.way++;
+    request.preemptions = (uint32_t)atoi(given[5]);
+    request.schedule = given[5];
+    request.words = given + 5; // the first is the program's name
+    request.word_count = count - 5;
+    if (request.way == REPLAY) read_schedule();
+    return request.way <= REPLAY;
 }
 
 int main(int count, char **given) {
-    static char name[] = "scene";
     setvbuf(stdout, NULL, _IOLBF, 0);
-    int at = 1;
-    for (; at < count && given[at][0] == '-'; at += 2)
-        if (!read_option(given + at)) return refuse_words();
-    int taken = at < count ? read_way(given + at, count - at) : 0;
-    if (!taken) return refuse_words();
-    at += taken;
-    request.words = given + at - 1;
-    request.words[0] = name;
-    request.word_count = count - at + 1;
+    if (!read_words(count, given)) return 2;
     make_stacks();
     catch_signals();
     clock_gettime(CLOCK_MONOTONIC, &begun);

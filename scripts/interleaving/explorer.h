@@ -141,6 +141,7 @@ int can_go_on(uint32_t thread);
 
 // past.c
 void forget_words(void);
+void raise_clock(uint64_t to[MOST_THREADS], const uint64_t from[MOST_THREADS]);
 int changes_word(const struct step *step);
 int touches_of(const struct step *step, struct touch *to);
 uint64_t writes_of(uint64_t word, int *writer, int readers[MOST_THREADS]);

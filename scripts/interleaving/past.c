@@ -71,7 +71,7 @@ uint64_t writes_of(uint64_t address, int *writer, int readers[MOST_THREADS]) {
     return word->write_past;
 }
 
-static void raise_clock(uint64_t to[MOST_THREADS], const uint64_t from[MOST_THREADS]) {
+void raise_clock(uint64_t to[MOST_THREADS], const uint64_t from[MOST_THREADS]) {
     for (int t = 0; t < MOST_THREADS; t++)
         if (to[t] < from[t]) to[t] = from[t];
 }

@@ -122,11 +122,6 @@ int can_go_on(uint32_t number) {
     return 1;
 }
 
-static void join_clocks(struct thread *to, const struct thread *from) {
-    for (int t = 0; t < MOST_THREADS; t++)
-        if (to->clock[t] < from->clock[t]) to->clock[t] = from->clock[t];
-}
-
 static void note_seen(struct thread *me, uint64_t word) {
     for (uint32_t k = 0; k < me->seen_count; k++)
         if (me->seen[k] == word) return;
@@ -146,7 +141,7 @@ static void tell_those_who_saw(uint64_t word) {
         struct thread *it = &threads[t];
         if (t == running || it->is_touched || !has_seen(it, word)) continue;
         it->is_touched = 1;
-        if (it->state == READY && it->next.kind == YIELD && !goes_on_by_itself(it)) join_clocks(it, &threads[running]);
+        if (it->state == READY && it->next.kind == YIELD && !goes_on_by_itself(it)) raise_clock(it->clock, threads[running].clock);
     }
 }
 
@@ -240,7 +235,7 @@ int explored_pthread_join(uint64_t name, void **result) {
     uint64_t number = name - FIRST_NAME;
     stop_before((struct step){.kind = JOIN, .address = number});
     struct thread *me = &threads[running];
-    join_clocks(me, &threads[number]);
+    raise_clock(me->clock, threads[number].clock);
     me->past = mix(me->past + threads[number].past);
     if (result) *result = NULL;
     return 0;
@@ -296,7 +291,7 @@ static int64_t wake(uint64_t address, uint64_t most) {
     int64_t woken = 0;
     for (; (uint64_t)woken < most && (sleeper = first_sleeper(address)); woken++) {
         sleeper->state = RUNS;
-        join_clocks(sleeper, me);
+        raise_clock(sleeper->clock, me->clock);
         sleeper->past = mix(sleeper->past + me->past);
     }
     event->found = (uint64_t)woken;

@@ -24,9 +24,17 @@ static inline uint64_t exchange(uint64_t *at, uint64_t from, uint64_t to) { retu
 static inline void sleep_while(uint64_t *at, uint32_t value) { explored_syscall(202, (uint64_t)at, 0, value, NULL); }
 static inline void wake_all(uint64_t *at) { explored_syscall(202, (uint64_t)at, 1, 9, NULL); }
 
-static inline uint64_t start(void *(*body)(void *)) {
+// What the threads do that a program starts.
+static void other(void);
+
+static void *run_other(void *given) {
+    other();
+    return given;
+}
+
+static inline uint64_t start(void) {
     uint64_t name;
-    explored_pthread_create(&name, NULL, body, NULL);
+    explored_pthread_create(&name, NULL, run_other, NULL);
     return name;
 }
 
@@ -38,17 +46,13 @@ static inline void join(uint64_t name) { explored_pthread_join(name, NULL); }
 // program: a_leak_of_some_orders
 // Who swaps a word first frees a block. One of the two forgets to.
 // wanted: 1 blocks of memory are left, and 0 at the first end
-WORD block = 0;
-WORD first = 0;
+WORD block = 0, first = 0;
 
-static void *forget(void *given) {
-    swap(&first, 1);
-    return given;
-}
+static void other(void) { swap(&first, 1); }
 
 int explored_main(void) {
     block = (uint64_t)explored_malloc(8);
-    uint64_t thread = start(forget);
+    uint64_t thread = start();
     if (swap(&first, 1) == 0) explored_free((void *)block);
     join(thread);
     return 0;
@@ -57,11 +61,9 @@ int explored_main(void) {
 // program: a_lock_of_one_word
 // Three threads take a lock by compare-exchange, each at most twice, and count under it: the count is right if they had it.
 // wanted: 39 ends
-WORD lock = 0;
-WORD count = 0;
-WORD wanted = 0;
+WORD lock = 0, count = 0, wanted = 0;
 
-static void *count_up(void *given) {
+static void other(void) {
     for (int tries = 0; tries < 2; tries++) {
         if (exchange(&lock, 0, 1) != 0) continue;
         store(&count, load(&count) + 1);
@@ -69,14 +71,13 @@ static void *count_up(void *given) {
         store(&lock, 0);
         break;
     }
-    return given;
 }
 
 int explored_main(void) {
-    uint64_t one = start(count_up), other = start(count_up);
-    count_up(NULL);
+    uint64_t one = start(), two = start();
+    other();
     join(one);
-    join(other);
+    join(two);
     return load(&count) != wanted;
 }
 
@@ -86,13 +87,10 @@ int explored_main(void) {
 // wanted: 3 ends
 WORD come = 0;
 
-static void *set(void *given) {
-    store(&come, 1);
-    return given;
-}
+static void other(void) { store(&come, 1); }
 
 int explored_main(void) {
-    uint64_t thread = start(set);
+    uint64_t thread = start();
     while (load(&come) == 0) explored_sched_yield();
     join(thread);
     return 0;
@@ -103,14 +101,11 @@ int explored_main(void) {
 // wanted: the program ends with status 1
 WORD count = 0;
 
-static void *count_up(void *given) {
-    store(&count, load(&count) + 1);
-    return given;
-}
+static void other(void) { store(&count, load(&count) + 1); }
 
 int explored_main(void) {
-    uint64_t thread = start(count_up);
-    count_up(NULL);
+    uint64_t thread = start();
+    other();
     join(thread);
     return load(&count) != 2;
 }
@@ -118,17 +113,15 @@ int explored_main(void) {
 // program: a_lost_wake
 // A thread looks, and sleeps whatever has come since: it may sleep permanently.
 // wanted: nobody can go on, thread 0 sleeps
-WORD come = 0;
-WORD bed = 0;
+WORD come = 0, bed = 0;
 
-static void *wake_up(void *given) {
+static void other(void) {
     store(&come, 1);
     wake_all(&bed);
-    return given;
 }
 
 int explored_main(void) {
-    uint64_t thread = start(wake_up);
+    uint64_t thread = start();
     if (load(&come) == 0) sleep_while(&bed, 0);
     join(thread);
     return 0;
@@ -137,18 +130,16 @@ int explored_main(void) {
 // program: a_step_at_freed_memory
 // The last of two that hold a block is to free it, and the first one to go frees it too early.
 // wanted: a step at a word that was freed
-WORD block = 0;
-WORD gone = 0;
+WORD block = 0, gone = 0;
 
-static void *use(void *given) {
+static void other(void) {
     store((uint64_t *)block, 1);
     add(&gone, 1);
-    return given;
 }
 
 int explored_main(void) {
     block = (uint64_t)explored_malloc(8);
-    uint64_t thread = start(use);
+    uint64_t thread = start();
     if (load(&gone) == 0) explored_free((void *)block);
     join(thread);
     return 0;
@@ -159,14 +150,13 @@ int explored_main(void) {
 // wanted: 3 ends
 WORD come = 0;
 
-static void *wake_up(void *given) {
+static void other(void) {
     store(&come, 1);
     wake_all(&come);
-    return given;
 }
 
 int explored_main(void) {
-    uint64_t thread = start(wake_up);
+    uint64_t thread = start();
     if (load(&come) == 0) sleep_while(&come, 0);
     join(thread);
     return load(&come) != 1;
@@ -177,36 +167,30 @@ int explored_main(void) {
 // wanted: 6 ends
 WORD count = 0;
 
-static void *count_up(void *given) {
-    add(&count, 1);
-    return given;
-}
+static void other(void) { add(&count, 1); }
 
 int explored_main(void) {
-    uint64_t one = start(count_up), other = start(count_up);
+    uint64_t one = start(), two = start();
     add(&count, 1);
     join(one);
-    join(other);
+    join(two);
     return load(&count) != 3;
 }
 
 // program: two_loads_and_stores
 // Two threads each store a word of their own and read the other's: that both read nothing is no end of any order.
 // wanted: 3 ends
-WORD one = 0;
-WORD other = 0;
-WORD seen = 0;
+WORD one = 0, two = 0, seen = 0;
 
-static void *second(void *given) {
-    store(&other, 1);
+static void other(void) {
+    store(&two, 1);
     seen = load(&one);
-    return given;
 }
 
 int explored_main(void) {
-    uint64_t thread = start(second);
+    uint64_t thread = start();
     store(&one, 1);
-    uint64_t found = load(&other);
+    uint64_t found = load(&two);
     join(thread);
     return found == 0 && seen == 0;
 }
