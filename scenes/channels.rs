@@ -32,41 +32,51 @@ fn send_all(alloc: Global, mut sender: Sender<Item>, items: usize) -> Option<Sen
     Some(sender)
 }
 
-fn sleep_until_named(rt: &impl Host, slots: &mut Slots, slot: usize) {
-    for _ in rt.forever() {
-        if slots.source.take() == Taken::Slot(slot) {
-            return;
-        }
-        yield_now();
-    }
+// The receiver of a channel, and the slots at which it is polled.
+#[derive(Drop)]
+struct Polled {
+    slots: Slots,
+    receiver: Receiver<Item>,
 }
 
-// Receives until so many items came or the stream ends, at the slots 0 and 1 in turn where it moves. Returns how many
-// came, where they came in order.
-fn receive(
-    rt: &impl Host,
-    slots: &mut Slots,
-    receiver: &mut Receiver<Item>,
-    most: usize,
-    moves: bool,
-) -> anyhow::Result<usize> {
-    let (mut came, mut slot) = (0usize, 0usize);
-    for _ in rt.forever() {
-        match receiver.poll_next(slots.waker(slot)) {
-            Poll::Ready(Some(value)) if *value == came as u64 => came = came + 1,
-            Poll::Ready(Some(_)) => bail!("the items come in another order"),
-            Poll::Ready(None) => break,
-            Poll::Pending if moves && slot == 0 => slot = 1,
-            Poll::Pending => {
-                sleep_until_named(rt, slots, slot);
-                yield_now();
+// A channel of so many places.
+fn open(alloc: Global, places: usize) -> anyhow::Result<(Sender<Item>, Polled)> {
+    let slots = Slots::new(alloc)?;
+    let (sender, receiver) = channel(alloc, places)?;
+    Ok((sender, Polled { slots, receiver }))
+}
+
+impl Polled {
+    fn sleep_until_named(&mut self, rt: &impl Host, slot: usize) {
+        for _ in rt.forever() {
+            if self.slots.source.take() == Taken::Slot(slot) {
+                return;
             }
-        }
-        if came == most {
-            break;
+            yield_now();
         }
     }
-    Ok(came)
+
+    // Receives until so many items came or the stream ends, at the slots 0 and 1 in turn where it moves. Returns how
+    // many came, where they came in order.
+    fn receive(&mut self, rt: &impl Host, most: usize, moves: bool) -> anyhow::Result<usize> {
+        let (mut came, mut slot) = (0usize, 0usize);
+        for _ in rt.forever() {
+            match self.receiver.poll_next(self.slots.waker(slot)) {
+                Poll::Ready(Some(value)) if *value == came as u64 => came = came + 1,
+                Poll::Ready(Some(_)) => bail!("the items come in another order"),
+                Poll::Ready(None) => break,
+                Poll::Pending if moves && slot == 0 => slot = 1,
+                Poll::Pending => {
+                    self.sleep_until_named(rt, slot);
+                    yield_now();
+                }
+            }
+            if came == most {
+                break;
+            }
+        }
+        Ok(came)
+    }
 }
 
 fn wanted(came: usize, items: usize) -> anyhow::Result<()> {
@@ -79,10 +89,9 @@ fn wanted(came: usize, items: usize) -> anyhow::Result<()> {
 /// So many items through so many places, then the sender goes: all come, in order, and then the end.
 pub fn sender_goes(rt: &impl Host, places: usize, items: usize) -> anyhow::Result<()> {
     let alloc = rt.alloc();
-    let mut slots = Slots::new(alloc)?;
-    let (sender, mut receiver) = channel::<Item>(alloc, places)?;
+    let (sender, mut polled) = open(alloc, places)?;
     let thread = thread::spawn(rt, move || drop(send_all(alloc, sender, items)))?;
-    let came = receive(rt, &mut slots, &mut receiver, usize::MAX, false)?;
+    let came = polled.receive(rt, usize::MAX, false)?;
     thread.join(rt);
     wanted(came, items)
 }
@@ -90,19 +99,36 @@ pub fn sender_goes(rt: &impl Host, places: usize, items: usize) -> anyhow::Resul
 /// The same where the sender finishes, and what it left shows afterwards that nothing is to come.
 pub fn sender_finishes(rt: &impl Host, places: usize, items: usize) -> anyhow::Result<()> {
     let alloc = rt.alloc();
-    let mut slots = Slots::new(alloc)?;
-    let (sender, mut receiver) = channel::<Item>(alloc, places)?;
+    let (sender, mut polled) = open(alloc, places)?;
     let send_and_finish = move || match send_all(alloc, sender, items) {
         Some(sender) => sender.finish(),
         None => None,
     };
     let thread = thread::spawn(rt, send_and_finish)?;
-    let came = receive(rt, &mut slots, &mut receiver, usize::MAX, false)?;
+    let came = polled.receive(rt, usize::MAX, false)?;
     let Some(mut finished) = thread.join(rt) else {
         bail!("the receiver is taken for gone");
     };
-    wanted(receiver.compare_finished(&mut finished), 0)?;
+    wanted(polled.receiver.compare_finished(&mut finished), 0)?;
     wanted(came, items)
+}
+
+// So many items to a receiver that takes them, while the sender stays. Returns both, if all came.
+fn send_and_stay(
+    rt: &impl Host,
+    places: usize,
+    items: usize,
+    moves: bool,
+) -> anyhow::Result<(Sender<Item>, Polled)> {
+    let alloc = rt.alloc();
+    let (sender, mut polled) = open(alloc, places)?;
+    let thread = thread::spawn(rt, move || send_all(alloc, sender, items))?;
+    let came = polled.receive(rt, items, moves)?;
+    let Some(sender) = thread.join(rt) else {
+        bail!("the receiver is taken for gone");
+    };
+    wanted(came, items)?;
+    Ok((sender, polled))
 }
 
 /// The same where the sender stays: no wake of its going makes up for one that was lost. Where the receiver moves, its
@@ -113,34 +139,19 @@ pub fn sender_stays(
     items: usize,
     moves: bool,
 ) -> anyhow::Result<()> {
-    let alloc = rt.alloc();
-    let mut slots = Slots::new(alloc)?;
-    let (sender, mut receiver) = channel::<Item>(alloc, places)?;
-    let thread = thread::spawn(rt, move || send_all(alloc, sender, items))?;
-    let came = receive(rt, &mut slots, &mut receiver, items, moves)?;
-    let Some(mut sender) = thread.join(rt) else {
-        bail!("the receiver is taken for gone");
-    };
-    wanted(receiver.compare(&mut sender), 0)?;
-    wanted(came, items)
+    let (mut sender, mut polled) = send_and_stay(rt, places, items, moves)?;
+    wanted(polled.receiver.compare(&mut sender), 0)
 }
 
 /// A poll waits for one item or finds it: the slot is marked once at most, by the sending or by the next one.
 pub fn marks_once(rt: &impl Host) -> anyhow::Result<()> {
-    let alloc = rt.alloc();
-    let mut slots = Slots::new(alloc)?;
-    let (sender, mut receiver) = channel::<Item>(alloc, 2)?;
-    let thread = thread::spawn(rt, move || send_all(alloc, sender, 1))?;
-    let came = receive(rt, &mut slots, &mut receiver, 1, false)?;
-    let Some(mut sender) = thread.join(rt) else {
-        bail!("the receiver is taken for gone");
-    };
-    let is_marked = slots.source.take() == Taken::Slot(0);
-    let _sent = sender.try_send(Box::new(alloc, 1u64)?).is_ok();
-    if is_marked && slots.source.take() == Taken::Slot(0) {
+    let (mut sender, mut polled) = send_and_stay(rt, 2, 1, false)?;
+    let is_marked = polled.slots.source.take() == Taken::Slot(0);
+    let _sent = sender.try_send(Box::new(rt.alloc(), 1u64)?).is_ok();
+    if is_marked && polled.slots.source.take() == Taken::Slot(0) {
         bail!("the slot is marked twice");
     }
-    wanted(came, 1)
+    Ok(())
 }
 
 /// The receiver goes after so many items, while others are sent: nothing is left of those that did not come.
@@ -151,15 +162,14 @@ pub fn receiver_goes(
     most: usize,
 ) -> anyhow::Result<()> {
     let alloc = rt.alloc();
-    let mut slots = Slots::new(alloc)?;
-    let (sender, mut receiver) = channel::<Item>(alloc, places)?;
+    let (sender, mut polled) = open(alloc, places)?;
     let thread = thread::spawn(rt, move || drop(send_all(alloc, sender, items)))?;
     let came = if most == 0 {
         0
     } else {
-        receive(rt, &mut slots, &mut receiver, most, false)?
+        polled.receive(rt, most, false)?
     };
-    drop(receiver);
+    drop(polled.receiver);
     thread.join(rt);
     wanted(came, most)
 }
@@ -167,17 +177,15 @@ pub fn receiver_goes(
 /// The sender looks whether the receiver is gone, until it is; the receiver has polled and goes. Afterwards a sending
 /// is refused.
 pub fn sender_looks(rt: &impl Host, places: usize) -> anyhow::Result<()> {
-    let alloc = rt.alloc();
-    let slots = Slots::new(alloc)?;
-    let (mut sender, mut receiver) = channel::<Item>(alloc, places)?;
-    let value = Box::new(alloc, 0u64)?;
+    let (mut sender, mut polled) = open(rt.alloc(), places)?;
+    let value = Box::new(rt.alloc(), 0u64)?;
     let look_and_send = move || {
         let is_closed = sender.is_closed();
         (is_closed, sender.try_send(value).is_ok())
     };
     let thread = thread::spawn(rt, look_and_send)?;
-    let _came = receiver.poll_next(slots.waker(0)).is_ready();
-    drop(receiver);
+    let _came = polled.receiver.poll_next(polled.slots.waker(0)).is_ready();
+    drop(polled.receiver);
     let (is_closed, is_sent) = thread.join(rt);
     if is_closed && is_sent {
         bail!("an item was sent to a receiver that was gone");

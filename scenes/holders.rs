@@ -3,12 +3,12 @@ use crate::awaited::Awaited;
 use futures::Stream;
 use futures_buffered_core::ready_core::NewFault;
 use futures_buffered_core::ready_shared::SharedReady;
-use futures_buffered_unordered::merge_bounded::MergeBounded;
-use futures_buffered_unordered::merge_unbounded::MergeUnbounded;
 use futures_buffered_ordered::futures_ordered::FuturesOrdered;
 use futures_buffered_ordered::futures_ordered_bounded::FuturesOrderedBounded;
 use futures_buffered_unordered::futures_unordered::FuturesUnordered;
 use futures_buffered_unordered::futures_unordered_bounded::FuturesUnorderedBounded;
+use futures_buffered_unordered::merge_bounded::MergeBounded;
+use futures_buffered_unordered::merge_unbounded::MergeUnbounded;
 use std::alloc::Global;
 
 pub type Set = FuturesUnorderedBounded<Awaited, SharedReady>;
@@ -35,103 +35,46 @@ pub trait Holder: Stream<Item = usize> + Drop {
     fn empty(&mut self);
 
     /// Whether the outputs come in the order of what is held.
-    fn is_ordered() -> bool {
-        false
-    }
+    fn is_ordered() -> bool;
 }
 
-impl Holder for Set {
-    fn over(alloc: Global, held: Vec<Awaited>) -> Result<Self, NewFault> {
-        FuturesUnorderedBounded::from_iter(alloc, held)
-    }
+// Writes `Holder` for each of these types: how one is made that holds these, what adds one more, and whether it has an
+// order.
+macro_rules! holders {
+    ($($holder:ty: |$alloc:ident, $held:ident| $made:expr, $put:ident, $is_ordered:expr;)*) => {$(
+        impl Holder for $holder {
+            fn over($alloc: Global, $held: Vec<Awaited>) -> Result<Self, NewFault> {
+                $made
+            }
 
-    fn put(&mut self, held: Awaited) {
-        let _ = self.try_push(held);
-    }
+            fn put(&mut self, held: Awaited) {
+                let _ = self.$put(held);
+            }
 
-    fn empty(&mut self) {
-        self.clear();
-    }
+            fn empty(&mut self) {
+                self.clear();
+            }
+
+            fn is_ordered() -> bool {
+                $is_ordered
+            }
+        }
+    )*};
 }
 
-impl Holder for GrowingSet {
-    fn over(alloc: Global, held: Vec<Awaited>) -> Result<Self, NewFault> {
+holders! {
+    Set: |alloc, held| FuturesUnorderedBounded::from_iter(alloc, held), try_push, false;
+    GrowingSet: |alloc, held| {
         let mut set = FuturesUnordered::over((), alloc, 1)?;
         let _ = set.extend(held);
         Ok(set)
-    }
-
-    fn put(&mut self, held: Awaited) {
-        let _ = self.push(held);
-    }
-
-    fn empty(&mut self) {
-        self.clear();
-    }
-}
-
-impl Holder for Queue {
-    fn over(alloc: Global, held: Vec<Awaited>) -> Result<Self, NewFault> {
-        FuturesOrderedBounded::from_iter(alloc, held)
-    }
-
-    fn put(&mut self, held: Awaited) {
-        let _ = self.try_push_back(held);
-    }
-
-    fn empty(&mut self) {
-        self.clear();
-    }
-
-    fn is_ordered() -> bool {
-        true
-    }
-}
-
-impl Holder for GrowingQueue {
-    fn over(alloc: Global, held: Vec<Awaited>) -> Result<Self, NewFault> {
+    }, push, false;
+    Queue: |alloc, held| FuturesOrderedBounded::from_iter(alloc, held), try_push_back, true;
+    GrowingQueue: |alloc, held| {
         let mut queue = FuturesOrdered::over((), alloc, 1)?;
         let _ = queue.extend(held);
         Ok(queue)
-    }
-
-    fn put(&mut self, held: Awaited) {
-        let _ = self.push_back(held);
-    }
-
-    fn empty(&mut self) {
-        self.clear();
-    }
-
-    fn is_ordered() -> bool {
-        true
-    }
-}
-
-impl Holder for Merge {
-    fn over(alloc: Global, held: Vec<Awaited>) -> Result<Self, NewFault> {
-        MergeBounded::from_iter(alloc, held)
-    }
-
-    fn put(&mut self, held: Awaited) {
-        let _ = self.try_push(held);
-    }
-
-    fn empty(&mut self) {
-        self.clear();
-    }
-}
-
-impl Holder for GrowingMerge {
-    fn over(alloc: Global, held: Vec<Awaited>) -> Result<Self, NewFault> {
-        MergeUnbounded::from_iter(alloc, held)
-    }
-
-    fn put(&mut self, held: Awaited) {
-        let _ = self.push(held);
-    }
-
-    fn empty(&mut self) {
-        self.clear();
-    }
+    }, push_back, true;
+    Merge: |alloc, held| MergeBounded::from_iter(alloc, held), try_push, false;
+    GrowingMerge: |alloc, held| MergeUnbounded::from_iter(alloc, held), push, false;
 }

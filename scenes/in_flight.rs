@@ -1,6 +1,6 @@
 //! Futures of the kit in flight that threads complete.
 use crate::Host;
-use crate::numbers::{Number, join_threads, number_to_come, send_from_thread, wanted};
+use crate::numbers::{Number, each_came, join_threads, number_to_come, send_from_thread, wanted};
 use crate::tasks::drain;
 use futures::Stream;
 use futures::task::Poll;
@@ -29,11 +29,7 @@ pub fn polled(rt: &impl Host, count: usize) -> anyhow::Result<()> {
     let (mut set, threads) = begin(rt, count)?;
     let came = drain(rt, &task, &mut set);
     join_threads(rt, threads);
-    if count == 1 {
-        wanted(came, 1, 1)
-    } else {
-        wanted(came, 12, 21)
-    }
+    each_came(count, came, false)
 }
 
 /// The set is cleared after so many polls, while the sendings are under way, and a future more is put in: of that alone

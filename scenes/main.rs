@@ -65,14 +65,9 @@ fn read_words(rt: &(impl Env + AllocGlobal)) -> anyhow::Result<Asked> {
     })
 }
 
-fn held_scene<H: Holder>(
-    rt: &impl Host,
-    scene: &str,
-    a: usize,
-    b: usize,
-    c: usize,
-) -> anyhow::Result<()> {
-    match scene {
+fn held_scene<H: Holder>(rt: &impl Host, asked: &Asked) -> anyhow::Result<()> {
+    let [a, b, c] = asked.numbers;
+    match asked.scene.as_str() {
         "polled" => held::polled::<H>(rt, a, b, c),
         "blocked" => held::blocked::<H>(rt, a, b),
         "moved" => held::moved::<H>(rt, a, b),
@@ -85,50 +80,50 @@ fn held_scene<H: Holder>(
     }
 }
 
-fn scene_of_kind(rt: &impl Host, asked: &Asked) -> anyhow::Result<()> {
-    let (scene, [a, b, c]) = (asked.scene.as_str(), asked.numbers);
-    match asked.kind.as_str() {
-        "set" => held_scene::<Set>(rt, scene, a, b, c),
-        "growing_set" => held_scene::<GrowingSet>(rt, scene, a, b, c),
-        "queue" => held_scene::<Queue>(rt, scene, a, b, c),
-        "growing_queue" => held_scene::<GrowingQueue>(rt, scene, a, b, c),
-        "merge" => held_scene::<Merge>(rt, scene, a, b, c),
-        "growing_merge" => held_scene::<GrowingMerge>(rt, scene, a, b, c),
+fn scene(rt: &impl Host, asked: &Asked) -> anyhow::Result<()> {
+    let [a, b, c] = asked.numbers;
+    match asked.scene.as_str() {
+        "list_wakes" => ready_list::wakes(rt, a, b, c),
+        "list_outer_wakers" => ready_list::outer_wakers(rt, a),
+        "list_seats" => ready_list::seats(rt, a),
+        "source_task" => tasks::task(rt, a, b, c),
+        "source_other_task" => tasks::other_task(rt, a),
+        "source_dropped" => tasks::dropped_source(rt, a),
+        "source_sibling" => tasks::sibling(rt, a, b),
+        "source_pollers" => tasks::pollers(rt, a),
+        "join" => joins::join(rt, a, b),
+        "try_join" => joins::try_join(rt, a, b),
+        "one_shot_sent" => one_shots::sent(rt, a, b),
+        "one_shot_receipt" => one_shots::sent_with_receipt(rt, a),
+        "one_shot_sender_goes" => one_shots::sender_goes(rt, a, b),
+        "one_shot_receiver_goes" => one_shots::receiver_goes(rt, a),
+        "one_shot_sender_looks" => one_shots::sender_looks(rt, a),
+        "channel_sender_goes" => channels::sender_goes(rt, a, b),
+        "channel_sender_finishes" => channels::sender_finishes(rt, a, b),
+        "channel_sender_stays" => channels::sender_stays(rt, a, b, false),
+        "channel_receiver_moves" => channels::sender_stays(rt, a, b, true),
+        "channel_marks_once" => channels::marks_once(rt),
+        "channel_receiver_goes" => channels::receiver_goes(rt, a, b, c),
+        "channel_sender_looks" => channels::sender_looks(rt, a),
+        "channel_merged" => channels::merged_alone(rt, a, b),
+        "channels_merged" => channels::merged(rt, a, b),
+        "in_flight_polled" => in_flight::polled(rt, a),
+        "in_flight_cleared" => in_flight::cleared(rt, a, b),
+        "in_flight_cancelled" => in_flight::cancelled(rt, a),
         _ => bail!("there is no such scene"),
     }
 }
 
 fn main(rt: HostRuntime) -> anyhow::Result<()> {
     let asked = read_words(&rt)?;
-    let [a, b, c] = asked.numbers;
-    match asked.scene.as_str() {
-        "list_wakes" => ready_list::wakes(&rt, a, b, c),
-        "list_outer_wakers" => ready_list::outer_wakers(&rt, a),
-        "list_seats" => ready_list::seats(&rt, a),
-        "source_task" => tasks::task(&rt, a, b, c),
-        "source_other_task" => tasks::other_task(&rt, a),
-        "source_dropped" => tasks::dropped_source(&rt, a),
-        "source_sibling" => tasks::sibling(&rt, a, b),
-        "source_pollers" => tasks::pollers(&rt, a),
-        "join" => joins::join(&rt, a, b),
-        "try_join" => joins::try_join(&rt, a, b),
-        "one_shot_sent" => one_shots::sent(&rt, a, b),
-        "one_shot_receipt" => one_shots::sent_with_receipt(&rt, a),
-        "one_shot_sender_goes" => one_shots::sender_goes(&rt, a, b),
-        "one_shot_receiver_goes" => one_shots::receiver_goes(&rt, a),
-        "one_shot_sender_looks" => one_shots::sender_looks(&rt, a),
-        "channel_sender_goes" => channels::sender_goes(&rt, a, b),
-        "channel_sender_finishes" => channels::sender_finishes(&rt, a, b),
-        "channel_sender_stays" => channels::sender_stays(&rt, a, b, false),
-        "channel_receiver_moves" => channels::sender_stays(&rt, a, b, true),
-        "channel_marks_once" => channels::marks_once(&rt),
-        "channel_receiver_goes" => channels::receiver_goes(&rt, a, b, c),
-        "channel_sender_looks" => channels::sender_looks(&rt, a),
-        "channel_merged" => channels::merged_alone(&rt, a, b),
-        "channels_merged" => channels::merged(&rt, a, b),
-        "in_flight_polled" => in_flight::polled(&rt, a),
-        "in_flight_cleared" => in_flight::cleared(&rt, a, b),
-        "in_flight_cancelled" => in_flight::cancelled(&rt, a),
-        _ => scene_of_kind(&rt, &asked),
+    match asked.kind.as_str() {
+        "" => scene(&rt, &asked),
+        "set" => held_scene::<Set>(&rt, &asked),
+        "growing_set" => held_scene::<GrowingSet>(&rt, &asked),
+        "queue" => held_scene::<Queue>(&rt, &asked),
+        "growing_queue" => held_scene::<GrowingQueue>(&rt, &asked),
+        "merge" => held_scene::<Merge>(&rt, &asked),
+        "growing_merge" => held_scene::<GrowingMerge>(&rt, &asked),
+        _ => bail!("there is no such kind"),
     }
 }

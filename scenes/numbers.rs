@@ -55,3 +55,12 @@ pub fn wanted(came: usize, either: usize, or: usize) -> anyhow::Result<()> {
     }
     Ok(())
 }
+
+/// Each of one or two numbers came once, in order if there is one.
+pub fn each_came(count: usize, came: usize, is_ordered: bool) -> anyhow::Result<()> {
+    match count {
+        1 => wanted(came, 1, 1),
+        2 => wanted(came, 12, if is_ordered { 12 } else { 21 }),
+        _ => bail!("{count} are too many"),
+    }
+}

@@ -5,61 +5,67 @@ use anyhow::bail;
 use futures::task::Poll;
 use futures_buffered::SlotFuture;
 use futures_buffered_core::ready_core::Taken;
-use futures_buffered_held::oneshot::{Canceled, Receiver, channel};
+use futures_buffered_held::oneshot::{Canceled, Receiver, Sender, channel};
 use std::thread::{self, JoinHandle};
 
 const VALUE: u64 = 7;
 
 type Answer = Result<Box<u64>, Canceled>;
 
-// So many polls, the last of them with the waker of slot `last`, and those before with that of slot 0. Returns the
-// answer, if one came.
-fn poll_often(
-    slots: &Slots,
-    receiver: &mut Receiver<Box<u64>>,
-    polls: usize,
-    last: usize,
-) -> Option<Answer> {
-    for poll in 0..polls {
-        let slot = if poll + 1 == polls { last } else { 0 };
-        if let Poll::Ready(answer) = receiver.poll(slots.waker(slot)) {
-            return Some(answer);
+// The receiver, and the slots at which it is polled.
+#[derive(Drop)]
+struct Polled {
+    slots: Slots,
+    receiver: Receiver<Box<u64>>,
+}
+
+// The sender, what it is to send, and the receiver.
+fn open(rt: &impl Host) -> anyhow::Result<(Sender<Box<u64>>, Box<u64>, Polled)> {
+    let slots = Slots::new(rt.alloc())?;
+    let (sender, receiver) = channel(rt.alloc())?;
+    let value = Box::new(rt.alloc(), VALUE)?;
+    Ok((sender, value, Polled { slots, receiver }))
+}
+
+impl Polled {
+    // So many polls, the last of them with the waker of slot `last`, and those before with that of slot 0. Returns the
+    // answer, if one came.
+    fn poll_often(&mut self, polls: usize, last: usize) -> Option<Answer> {
+        for poll in 0..polls {
+            let slot = if poll + 1 == polls { last } else { 0 };
+            if let Poll::Ready(answer) = self.receiver.poll(self.slots.waker(slot)) {
+                return Some(answer);
+            }
+        }
+        None
+    }
+
+    // Once the sender is done: the slot of the last poll was woken if there was one, and the answer is there.
+    fn answer_after(&mut self, polls: usize, last: usize) -> anyhow::Result<Answer> {
+        let (first, second) = (self.slots.source.take(), self.slots.source.take());
+        if polls > 0 && first != Taken::Slot(last) && second != Taken::Slot(last) {
+            bail!("no wake of the slot of the last poll");
+        }
+        match self.receiver.poll(self.slots.waker(last)) {
+            Poll::Ready(answer) => Ok(answer),
+            Poll::Pending => bail!("the sender is done, and no answer came"),
         }
     }
-    None
-}
 
-// Once the sender is done: the slot of the last poll was woken if there was one, and the answer is there.
-fn answer_after(
-    slots: &mut Slots,
-    receiver: &mut Receiver<Box<u64>>,
-    polls: usize,
-    last: usize,
-) -> anyhow::Result<Answer> {
-    let (first, second) = (slots.source.take(), slots.source.take());
-    if polls > 0 && first != Taken::Slot(last) && second != Taken::Slot(last) {
-        bail!("no wake of the slot of the last poll");
-    }
-    match receiver.poll(slots.waker(last)) {
-        Poll::Ready(answer) => Ok(answer),
-        Poll::Pending => bail!("the sender is done, and no answer came"),
-    }
-}
-
-// Polls while the sender acts on its thread, and afterwards. Returns the answer, and what the thread gives.
-fn receive<T: Drop>(
-    rt: &impl Host,
-    slots: &mut Slots,
-    receiver: &mut Receiver<Box<u64>>,
-    thread: JoinHandle<T>,
-    polls: usize,
-    last: usize,
-) -> anyhow::Result<(Answer, T)> {
-    let answer = poll_often(slots, receiver, polls, last);
-    let given = thread.join(rt);
-    match answer {
-        Some(answer) => Ok((answer, given)),
-        None => Ok((answer_after(slots, receiver, polls, last)?, given)),
+    // Polls while the sender acts on its thread, and afterwards. Returns the answer, and what the thread gives.
+    fn receive<T: Drop>(
+        &mut self,
+        rt: &impl Host,
+        thread: JoinHandle<T>,
+        polls: usize,
+        last: usize,
+    ) -> anyhow::Result<(Answer, T)> {
+        let answer = self.poll_often(polls, last);
+        let given = thread.join(rt);
+        match answer {
+            Some(answer) => Ok((answer, given)),
+            None => Ok((self.answer_after(polls, last)?, given)),
+        }
     }
 }
 
@@ -73,11 +79,9 @@ fn is_value(answer: &Answer) -> bool {
 /// The sender sends while the receiver is polled, the last time with the waker of slot `last`: the value comes, and
 /// that slot is woken.
 pub fn sent(rt: &impl Host, polls: usize, last: usize) -> anyhow::Result<()> {
-    let mut slots = Slots::new(rt.alloc())?;
-    let (sender, mut receiver) = channel::<Box<u64>>(rt.alloc())?;
-    let value = Box::new(rt.alloc(), VALUE)?;
+    let (sender, value, mut polled) = open(rt)?;
     let thread = thread::spawn(rt, move || sender.send(value).is_ok())?;
-    let (answer, is_sent) = receive(rt, &mut slots, &mut receiver, thread, polls, last)?;
+    let (answer, is_sent) = polled.receive(rt, thread, polls, last)?;
     if !is_value(&answer) || !is_sent {
         bail!("another answer");
     }
@@ -86,15 +90,13 @@ pub fn sent(rt: &impl Host, polls: usize, last: usize) -> anyhow::Result<()> {
 
 /// The same with a receipt, which shows afterwards that what came is what was sent.
 pub fn sent_with_receipt(rt: &impl Host, polls: usize) -> anyhow::Result<()> {
-    let mut slots = Slots::new(rt.alloc())?;
-    let (sender, mut receiver) = channel::<Box<u64>>(rt.alloc())?;
-    let value = Box::new(rt.alloc(), VALUE)?;
+    let (sender, value, mut polled) = open(rt)?;
     let thread = thread::spawn(rt, move || sender.send_with_receipt(value).ok())?;
-    let (answer, receipt) = receive(rt, &mut slots, &mut receiver, thread, polls, 0)?;
+    let (answer, receipt) = polled.receive(rt, thread, polls, 0)?;
     let Some(receipt) = receipt else {
         bail!("the value came back");
     };
-    receipt.compare(&mut receiver);
+    receipt.compare(&mut polled.receiver);
     if !is_value(&answer) {
         bail!("another answer");
     }
@@ -103,10 +105,9 @@ pub fn sent_with_receipt(rt: &impl Host, polls: usize) -> anyhow::Result<()> {
 
 /// The sender goes, and has sent nothing: the receiver is told, and its slot is woken.
 pub fn sender_goes(rt: &impl Host, polls: usize, last: usize) -> anyhow::Result<()> {
-    let mut slots = Slots::new(rt.alloc())?;
-    let (sender, mut receiver) = channel::<Box<u64>>(rt.alloc())?;
+    let (sender, _value, mut polled) = open(rt)?;
     let thread = thread::spawn(rt, move || drop(sender))?;
-    let (answer, ()) = receive(rt, &mut slots, &mut receiver, thread, polls, last)?;
+    let (answer, ()) = polled.receive(rt, thread, polls, last)?;
     if answer.is_ok() {
         bail!("a value came, and none was sent");
     }
@@ -116,12 +117,10 @@ pub fn sender_goes(rt: &impl Host, polls: usize, last: usize) -> anyhow::Result<
 /// The receiver goes while the sender sends: the value came, or comes back, or is dropped with what both share. Nothing
 /// is left.
 pub fn receiver_goes(rt: &impl Host, polls: usize) -> anyhow::Result<()> {
-    let slots = Slots::new(rt.alloc())?;
-    let (sender, mut receiver) = channel::<Box<u64>>(rt.alloc())?;
-    let value = Box::new(rt.alloc(), VALUE)?;
+    let (sender, value, mut polled) = open(rt)?;
     let thread = thread::spawn(rt, move || sender.send(value).err())?;
-    let came = poll_often(&slots, &mut receiver, polls, 0).is_some();
-    drop(receiver);
+    let came = polled.poll_often(polls, 0).is_some();
+    drop(polled.receiver);
     match thread.join(rt) {
         Some(_) if came => bail!("the value came, and came back"),
         Some(back) if *back != VALUE => bail!("another value came back"),
@@ -131,16 +130,14 @@ pub fn receiver_goes(rt: &impl Host, polls: usize) -> anyhow::Result<()> {
 
 /// The sender looks whether the receiver is gone, and sends then. It is not, though it is polled meanwhile.
 pub fn sender_looks(rt: &impl Host, polls: usize) -> anyhow::Result<()> {
-    let mut slots = Slots::new(rt.alloc())?;
-    let (sender, mut receiver) = channel::<Box<u64>>(rt.alloc())?;
-    let value = Box::new(rt.alloc(), VALUE)?;
+    let (sender, value, mut polled) = open(rt)?;
     let look_and_send = move || {
         let is_gone = sender.is_canceled();
         let _ = sender.send(value);
         is_gone
     };
     let thread = thread::spawn(rt, look_and_send)?;
-    let (answer, is_gone) = receive(rt, &mut slots, &mut receiver, thread, polls, 0)?;
+    let (answer, is_gone) = polled.receive(rt, thread, polls, 0)?;
     if !is_value(&answer) || is_gone {
         bail!("another answer, or the receiver is taken for gone");
     }

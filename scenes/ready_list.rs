@@ -2,11 +2,11 @@
 use crate::Host;
 use crate::numbers::join_threads;
 use crate::outer::{Bed, Caller};
-use crate::tally::{Tally, wake_often};
+use crate::tally::Tally;
 use anyhow::bail;
 use futures_buffered_core::ready_core::{Taken, Woke};
 use futures_buffered_core::ready_shared::SharedReady;
-use futures_buffered_table::ready_table::{ReadyList, WakeSeat};
+use futures_buffered_table::ready_table::{PollSeat, ReadyList, WakeSeat};
 use std::alloc::Global;
 use std::sync::Arc;
 use std::thread::{self, JoinHandle, yield_now};
@@ -20,10 +20,8 @@ pub fn wakes(rt: &impl Host, slots: usize, threads: usize, wakes: usize) -> anyh
     let mut tally = Tally::new(alloc, slots)?;
     let mut started: Vec<JoinHandle<()>> = Vec::new(alloc);
     for thread in 0..threads {
-        let woken = tally.expect(thread % slots, wakes)?;
-        let waker = source.try_waker(thread % slots)?;
-        let wake = move || wake_often(&woken, &waker, wakes);
-        let _ = started.push(thread::spawn(rt, wake)?);
+        let slot = thread % slots;
+        let _ = started.push(tally.start(rt, &source, slot, slot, wakes)?);
     }
     take_until_known(rt, &mut source, &bed, &mut tally)?;
     join_threads(rt, started);
@@ -58,9 +56,7 @@ pub fn outer_wakers(rt: &impl Host, wakes: usize) -> anyhow::Result<()> {
     let mut tally = Tally::new(alloc, 1)?;
     source.set_outer(before.caller()?);
     tally.take_all(&mut source, 0);
-    let woken = tally.expect(0, wakes)?;
-    let waker = source.try_waker(0)?;
-    let thread = thread::spawn(rt, move || wake_often(&woken, &waker, wakes))?;
+    let thread = tally.start(rt, &source, 0, 0, wakes)?;
     take_until_known(rt, &mut source, &bed, &mut tally)?;
     thread.join(rt);
     Ok(())
@@ -79,11 +75,7 @@ fn wake_both(list: &ReadyList, mut seat: WakeSeat, first: usize) -> (WakeSeat, u
 
 // Makes so many takings, of which none may say Empty while a mark is there for sure, and returns how many slots they
 // named.
-fn take_often(
-    list: &ReadyList,
-    poll: &mut futures_buffered_table::ready_table::PollSeat,
-    takings: usize,
-) -> usize {
+fn take_often(list: &ReadyList, poll: &mut PollSeat, takings: usize) -> usize {
     let mut named = 0usize;
     for _ in 0..takings {
         if let Taken::Slot(_) = list.take(poll) {

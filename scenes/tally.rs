@@ -1,4 +1,5 @@
 //! How often each slot was woken, and of how many of these wakes its poller knows.
+use crate::Host;
 use futures_buffered_core::ready_core::Taken;
 use futures_buffered_core::ready_shared::{OuterWaker, SharedReady};
 use futures_buffered_core::ready_source::SlotWaker;
@@ -6,6 +7,7 @@ use std::alloc::{AllocError, Global};
 use std::sync::Arc;
 use std::sync::atomic::AtomicU64;
 use std::sync::atomic::Ordering::SeqCst;
+use std::thread::{self, JoinHandle};
 
 /// Of one slot: the wakes so far, those at its last naming, and those that there will be.
 #[derive(Drop)]
@@ -47,6 +49,20 @@ impl Tally {
     pub fn expect(&mut self, slot: usize, wakes: usize) -> Result<Arc<AtomicU64>, AllocError> {
         self.slots[slot].wanted = self.slots[slot].wanted.wrapping_add(wakes as u64);
         Arc::try_clone(&self.slots[slot].woken)
+    }
+
+    /// Starts a thread that wakes this slot of a source so often. The slot has this place here.
+    pub fn start<O: OuterWaker + Send + 'static>(
+        &mut self,
+        rt: &impl Host,
+        source: &SharedReady<O>,
+        slot: usize,
+        place: usize,
+        wakes: usize,
+    ) -> anyhow::Result<JoinHandle<()>> {
+        let waker = source.try_waker(slot)?;
+        let woken = self.expect(place, wakes)?;
+        Ok(thread::spawn(rt, move || wake_often(&woken, &waker, wakes))?)
     }
 
     /// The slot is named.

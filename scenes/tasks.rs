@@ -35,30 +35,27 @@ pub fn drain<St: Stream<Item = usize>>(rt: &impl Host, task: &MockTask, stream: 
     came
 }
 
-fn start(
-    rt: &impl Host,
-    source: &SharedReady,
-    slot: usize,
-    tally: &mut Tally,
-    place: usize,
-    wakes: usize,
-) -> anyhow::Result<JoinHandle<()>> {
-    let waker = source.try_waker(slot)?;
-    let woken = tally.expect(place, wakes)?;
-    Ok(thread::spawn(rt, move || wake_often(&woken, &waker, wakes))?)
-}
-
-// One poll: it registers and takes until nothing is named. Returns whether it paused.
-fn poll_once(task: &MockTask, source: &mut SharedReady, tally: &mut Tally) -> bool {
+// One poll: it registers with the first source, and takes from each until nothing is named. Returns whether it paused.
+// Sources beside others have one slot each.
+fn poll_once(task: &MockTask, sources: &mut [SharedReady], tally: &mut Tally) -> bool {
     task.enter(|cx| {
-        source.register(cx);
-        tally.take_all(source, 0)
+        sources[0].register(cx);
+        let mut paused = false;
+        for (before, source) in sources.iter_mut().enumerate() {
+            paused = tally.take_all(source, before) || paused;
+        }
+        paused
     })
 }
 
-fn poll_until_known(rt: &impl Host, task: &MockTask, source: &mut SharedReady, tally: &mut Tally) {
+fn poll_until_known(
+    rt: &impl Host,
+    task: &MockTask,
+    sources: &mut [SharedReady],
+    tally: &mut Tally,
+) {
     for _ in rt.forever() {
-        let paused = poll_once(task, source, tally);
+        let paused = poll_once(task, sources, tally);
         if tally.knows_all() {
             return;
         }
@@ -74,13 +71,13 @@ fn poll_until_known(rt: &impl Host, task: &MockTask, source: &mut SharedReady, t
 /// each slot.
 pub fn task(rt: &impl Host, slots: usize, threads: usize, wakes: usize) -> anyhow::Result<()> {
     let alloc = rt.alloc();
-    let mut source: SharedReady = SharedReady::new(alloc, slots)?;
+    let mut source: [SharedReady; 1] = [SharedReady::new(alloc, slots)?];
     let task = MockTask::new(rt)?;
     let mut tally = Tally::new(alloc, slots)?;
     let mut started: Vec<JoinHandle<()>> = Vec::new(alloc);
     for thread in 0..threads {
         let slot = thread % slots;
-        let _ = started.push(start(rt, &source, slot, &mut tally, slot, wakes)?);
+        let _ = started.push(tally.start(rt, &source[0], slot, slot, wakes)?);
     }
     poll_until_known(rt, &task, &mut source, &mut tally);
     join_threads(rt, started);
@@ -90,12 +87,11 @@ pub fn task(rt: &impl Host, slots: usize, threads: usize, wakes: usize) -> anyho
 /// One task has polled the source, and another polls it while wakes are under way. The other is woken, and the first
 /// too, since nobody keeps its waker then.
 pub fn other_task(rt: &impl Host, wakes: usize) -> anyhow::Result<()> {
-    let alloc = rt.alloc();
-    let mut source: SharedReady = SharedReady::new(alloc, 1)?;
+    let mut source: [SharedReady; 1] = [SharedReady::new(rt.alloc(), 1)?];
     let (first, other) = (MockTask::new(rt)?, MockTask::new(rt)?);
-    let mut tally = Tally::new(alloc, 1)?;
+    let mut tally = Tally::new(rt.alloc(), 1)?;
     let _paused = poll_once(&first, &mut source, &mut tally);
-    let thread = start(rt, &source, 0, &mut tally, 0, wakes)?;
+    let thread = tally.start(rt, &source[0], 0, 0, wakes)?;
     poll_until_known(rt, &other, &mut source, &mut tally);
     thread.join(rt);
     if !first.is_woken() {
@@ -106,12 +102,11 @@ pub fn other_task(rt: &impl Host, wakes: usize) -> anyhow::Result<()> {
 
 /// The source goes while wakes are under way: they or its going wake the task.
 pub fn dropped_source(rt: &impl Host, wakes: usize) -> anyhow::Result<()> {
-    let alloc = rt.alloc();
-    let mut source: SharedReady = SharedReady::new(alloc, 1)?;
+    let mut source: [SharedReady; 1] = [SharedReady::new(rt.alloc(), 1)?];
     let task = MockTask::new(rt)?;
-    let mut tally = Tally::new(alloc, 1)?;
+    let mut tally = Tally::new(rt.alloc(), 1)?;
     let _paused = poll_once(&task, &mut source, &mut tally);
-    let thread = start(rt, &source, 0, &mut tally, 0, wakes)?;
+    let thread = tally.start(rt, &source[0], 0, 0, wakes)?;
     drop(source);
     thread.join(rt);
     if !task.is_woken() {
@@ -126,7 +121,7 @@ pub fn pollers(rt: &impl Host, here: usize) -> anyhow::Result<()> {
     let alloc = rt.alloc();
     let mut first: SharedReady = SharedReady::new(alloc, 1)?;
     let second = first.make_sibling(alloc, 1)?;
-    let (mut source, mut beside) = if here == 0 {
+    let (source, mut beside) = if here == 0 {
         (first, second)
     } else {
         (second, first)
@@ -145,49 +140,33 @@ pub fn pollers(rt: &impl Host, here: usize) -> anyhow::Result<()> {
         (beside, other)
     };
     let thread = thread::spawn(rt, poll_and_wake)?;
+    let mut source = [source];
     poll_until_known(rt, &task, &mut source, &mut tally);
     let _beside = thread.join(rt);
     Ok(())
 }
 
-// A poll that ends with a name leaves the task's waker with the poller of the source.
-fn poll_to_a_name(task: &MockTask, source: &mut SharedReady) {
-    let _ = source.mark(0);
-    task.enter(|cx| {
-        source.register(cx);
-        let _ = source.take();
-    });
-}
-
 /// A source is made beside another while wakes of that are under way. Then one task polls both, and registers with the
-/// first alone: it gets to know of the last wake of each. With `earlier` the second keeps the waker of an earlier poll.
+/// first alone: it gets to know of the last wake of each. With `earlier` the second keeps the waker of an earlier poll,
+/// which ended with a name.
 pub fn sibling(rt: &impl Host, wakes: usize, earlier: usize) -> anyhow::Result<()> {
     let alloc = rt.alloc();
     let mut first: SharedReady = SharedReady::new(alloc, 1)?;
     let task = MockTask::new(rt)?;
     let mut tally = Tally::new(alloc, 2)?;
     task.enter(|cx| first.register(cx));
-    let one = start(rt, &first, 0, &mut tally, 0, wakes)?;
+    let one = tally.start(rt, &first, 0, 0, wakes)?;
     let mut second = first.make_sibling(alloc, 1)?;
     if earlier > 0 {
-        poll_to_a_name(&task, &mut second);
-    }
-    let two = start(rt, &second, 0, &mut tally, 1, wakes)?;
-    for _ in rt.forever() {
-        let paused = task.enter(|cx| {
-            first.register(cx);
-            let paused = tally.take_all(&mut first, 0);
-            tally.take_all(&mut second, 1) || paused
+        let _ = second.mark(0);
+        task.enter(|cx| {
+            second.register(cx);
+            let _ = second.take();
         });
-        if tally.knows_all() {
-            break;
-        }
-        if paused {
-            yield_now();
-        } else {
-            wait_for(rt, &task);
-        }
     }
+    let two = tally.start(rt, &second, 0, 1, wakes)?;
+    let mut sources = [first, second];
+    poll_until_known(rt, &task, &mut sources, &mut tally);
     one.join(rt);
     two.join(rt);
     Ok(())
