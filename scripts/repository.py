@@ -91,10 +91,12 @@ def copy_libraries(room):
 
 
 def add_crate(room, name, uses, sources):
-    """Adds a crate to another repository: its line of crates.txt, and its sources, each as a module. Returns its folder."""
-    with open(room / "crates.txt", "a", encoding="utf-8") as lines:
-        lines.write(f"{name}: {uses}\n")
+    """Adds a crate to another repository, or replaces it: its line of crates.txt, and its sources, each as a module. Returns its folder."""
+    listed = room / "crates.txt"
+    others = [line for line in listed.read_text(encoding="utf-8").splitlines() if name_of(line) != name]
+    listed.write_text("\n".join([*others, f"{name}: {uses}", ""]), encoding="utf-8")
     folder = room / "crates" / name
+    shutil.rmtree(folder / "src", ignore_errors=True)
     (folder / "src").mkdir(parents=True)
     for source in sources:
         shutil.copy(source, folder / "src" / f"{source.stem}.rt")

@@ -3,18 +3,19 @@
 //! number of all lines.
 #![tactic(auto)]
 
-use anyhow::bail;
+mod words;
+
+use crate::words::Words;
 use futures::channel::mpsc::{Sender, channel};
 use futures::executor::block_on;
 use futures::{StreamExt, future, stream};
 use futures_buffered::in_flight::IterExt;
 use std::alloc::Global;
-use std::env::Env;
 use std::io::Print;
 use std::random::RandomSource;
 use std::rt::Files;
 use std::sync::Wait;
-use std::{env, fs, io, thread};
+use std::{fs, io, thread};
 
 // How many lines may wait in a channel, beside the one that a thread always may send.
 const AHEAD: usize = 4;
@@ -32,13 +33,6 @@ struct Source {
     path: String,
     count: usize,
     last: String,
-}
-
-fn folder_of<R: Env + AllocGlobal>(rt: &R) -> Result<String, anyhow::Error> {
-    let Some(folder) = env::args(rt)?.nth(1) else {
-        bail!("usage: feed FOLDER");
-    };
-    Ok(folder)
 }
 
 // The files of the folder, in the order of their names. Nothing came of them yet.
@@ -97,7 +91,7 @@ fn print_counts<R: Print>(rt: &R, sources: &[Source]) -> io::Result<()> {
 }
 
 fn main(rt: HostRuntime) -> Result<(), anyhow::Error> {
-    let folder = folder_of(&rt)?;
+    let folder = Words::new(&rt, "feed FOLDER")?.text()?;
     let mut sources = sources_in(&rt, folder.as_str())?;
     let (mut streams, mut threads) = (Vec::new(rt.alloc()), Vec::new(rt.alloc()));
     for (place, source) in sources.iter().enumerate() {

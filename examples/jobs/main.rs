@@ -3,24 +3,24 @@
 //! lines, and wakes the slot of its future. A file that cannot be read is named, and stops no other.
 #![tactic(auto)]
 
-ghost use Rattle.std.specs.Prelude.{◌<◌, IfOk};
+ghost use Rattle.std.specs.Prelude.{◌<◌};
 
 mod counting;
+mod words;
 
-use anyhow::{Context, bail};
-use counting::Counting;
+use crate::counting::Counting;
+use crate::words::Words;
 use crossbeam_channel::{Receiver, unbounded};
 use futures::channel::oneshot;
 use futures::executor::block_on;
 use futures::{StreamExt, stream};
 use futures_buffered::in_flight::BufferedStreamExt;
 use std::alloc::{AllocError, Global};
-use std::env::Env;
 use std::random::RandomSource;
 use std::rt::Files;
 use std::sync::Wait;
 use std::thread::Threads;
-use std::{env, fs, io, thread};
+use std::{fs, io, thread};
 
 const THREADS: usize = 4;
 
@@ -32,22 +32,6 @@ struct Job {
 }
 
 type Answer = oneshot::Receiver<io::Result<usize>>;
-
-// The list, and how many files are under way at a time.
-fn words_of<R: Env + AllocGlobal>(rt: &R) -> Result<(String, usize), anyhow::Error>
-    ensures { IfOk result (λ words. 0 < words.1) }
-{
-    let mut words = env::args(rt)?;
-    words.next();
-    let (Some(list), Some(n)) = (words.next(), words.next()) else {
-        bail!("usage: jobs LIST N");
-    };
-    let n = n.parse::<usize>().context("N is a number")?;
-    if n == 0 {
-        bail!("N is at least 1");
-    }
-    Ok((list, n))
-}
 
 fn count_words<R: Files + AllocGlobal>(rt: &R, path: &str) -> io::Result<usize> {
     let text = fs::read_to_string(rt, path)?;
@@ -97,8 +81,9 @@ where
 }
 
 fn main(rt: HostRuntime) -> Result<(), anyhow::Error> {
-    let (list, n) = words_of(&rt)?;
-    let list = fs::read_to_string(&rt, list.as_str())?;
+    let mut words = Words::new(&rt, "jobs LIST N")?;
+    let list = fs::read_to_string(&rt, words.text()?.as_str())?;
+    let n = words.limit()?;
     let jobs = jobs_of(rt.alloc(), list.as_str())?;
     let (sender, receiver) = unbounded::<Job, Global>(rt.alloc())?;
     for _ in 0..THREADS {

@@ -5,54 +5,30 @@
 #![tactic(auto)]
 
 mod download;
+mod request;
 mod visit;
+mod words;
 
 use crate::download::Download;
+use crate::request::{document_in, request_for};
 use crate::visit::Visit;
+use crate::words::Words;
 use anyhow::bail;
-use bytes::Bytes;
 use futures::StreamExt;
 use futures_buffered::in_flight::{FuturesUnorderedBounded, Kept};
 use std::alloc::{AllocError, Global};
 use std::collections::BTreeSet;
-use std::env::Env;
-use std::net::{Ipv4Addr, Net, SocketAddr};
+use std::io;
+use std::net::{Net, SocketAddr};
 use std::random::RandomSource;
 use std::sync::Wait;
 use std::time::{Clock, Duration};
-use std::{env, io};
 use tokio::net::TcpStream;
 use tokio::runtime::LocalRuntime;
 use tokio::time::Timeout;
 
 // The requests in flight.
 type Visits = Kept<FuturesUnorderedBounded<Visit<Timeout<Download>>>>;
-
-// What the program's words ask for.
-#[derive(Drop)]
-struct Settings {
-    server: SocketAddr,
-    start: String,
-    limit: usize,
-    deadline: Duration,
-}
-
-fn read_settings<R: Env + AllocGlobal>(rt: &R) -> Result<Settings, anyhow::Error> {
-    let mut words = env::args(rt)?;
-    let _program = words.next();
-    let (Some(port), Some(start)) = (words.next(), words.next()) else {
-        bail!("usage: web_crawl PORT START LIMIT MILLISECONDS");
-    };
-    let (Some(limit), Some(milliseconds)) = (words.next(), words.next()) else {
-        bail!("usage: web_crawl PORT START LIMIT MILLISECONDS");
-    };
-    Ok(Settings {
-        server: SocketAddr::from((Ipv4Addr::LOCALHOST, port.parse()?)),
-        start,
-        limit: limit.parse()?,
-        deadline: Duration::from_millis(milliseconds.parse()?),
-    })
-}
 
 // The names of the pages that were found, and of those among them that wait for their turn.
 #[derive(Drop)]
@@ -99,43 +75,28 @@ fn download_of<R: Net + AllocGlobal>(
     name: &str,
 ) -> io::Result<Download> {
     let connect = TcpStream::connect(rt, server, runtime.handle().reactor());
-    let text = format!(in rt.alloc();
-        "GET {name} HTTP/1.1\r\nhost: localhost\r\nconnection: close\r\n\r\n"
-    )?;
-    let request = Bytes::copy_from_slice(rt.alloc(), text.as_bytes())?;
+    let request = request_for(rt.alloc(), name.trim_start_matches('/'))?;
     Ok(Download::new(rt.alloc(), connect, request))
-}
-
-// The text of an answer, which the server sends where it has the page.
-fn page_in(answer: &[u8]) -> Option<&str> {
-    let answer = str::from_utf8(answer).ok()?;
-    let (head, page) = answer.split_once("\r\n\r\n")?;
-    if head.starts_with("HTTP/1.1 200 ") {
-        Some(page)
-    } else {
-        None
-    }
 }
 
 fn crawl<R>(
     rt: &R,
     runtime: &mut LocalRuntime,
-    settings: &Settings,
     pages: &mut Pages,
+    server: SocketAddr,
+    limit: usize,
+    deadline: Duration,
 ) -> Result<(), anyhow::Error>
 where
     R: Wait + Clock + Net + RandomSource + AllocGlobal,
 {
-    let set = FuturesUnorderedBounded::new(rt.alloc(), settings.limit)?;
+    let set = FuturesUnorderedBounded::new(rt.alloc(), limit)?;
     let mut visits: Visits = Kept::new(set);
     for _ in rt.forever() {
         if !visits.get().is_full() {
             if let Some(name) = pages.waiting.pop() {
-                let page = download_of(rt, runtime, settings.server, name.as_str())?;
-                let page = runtime
-                    .handle()
-                    .time()
-                    .timeout(rt, settings.deadline, page)?;
+                let page = download_of(rt, runtime, server, name.as_str())?;
+                let page = runtime.handle().time().timeout(rt, deadline, page)?;
                 let _key = visits.push(Visit::new(rt.alloc(), name, page));
                 continue;
             }
@@ -147,25 +108,28 @@ where
             bail!("{name} did not come in time");
         };
         let answer = answer?;
-        let Some(page) = page_in(answer.as_slice()) else {
+        let Some(page) = document_in(answer.as_slice()) else {
             bail!("{name} is not to be had");
         };
-        pages.find_links(page)?;
+        pages.find_links(str::from_utf8(page)?)?;
     }
     Ok(())
 }
 
 fn main(rt: HostRuntime) -> Result<(), anyhow::Error> {
-    let settings = read_settings(&rt)?;
+    let mut words = Words::new(&rt, "web_crawl PORT START LIMIT MILLISECONDS")?;
+    let (server, start) = (words.server()?, words.text()?);
+    let (limit, deadline) = (words.limit()?, words.milliseconds()?);
     let mut runtime = LocalRuntime::new(&rt)?;
     let mut pages = Pages::new(rt.alloc());
-    pages.find(settings.start.as_str())?;
-    match crawl(&rt, &mut runtime, &settings, &mut pages) {
+    pages.find(start.as_str())?;
+    match crawl(&rt, &mut runtime, &mut pages, server, limit, deadline) {
         Ok(()) => println!(rt; "{} pages", pages.found.len())?,
         Err(error) => println!(rt; "stopped: {error}")?,
     }
-    let asked = download_of(&rt, &runtime, settings.server, "/in-hand")?;
+    let asked = download_of(&rt, &runtime, server, "/in-hand")?;
     let answer = runtime.block_on(&rt, asked)??;
-    println!(rt; "in flight: {}", page_in(answer.as_slice()).unwrap_or("?"))?;
+    let in_hand = document_in(answer.as_slice()).unwrap_or(b"?");
+    println!(rt; "in flight: {}", str::from_utf8(in_hand)?)?;
     Ok(())
 }
