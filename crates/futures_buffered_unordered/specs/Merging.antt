@@ -12,8 +12,8 @@ use Rattle.futures_buffered_core.specs.ReadySource.{SourceSteps}
 use Rattle.futures_buffered_core.specs.declared.ready_source.ReadySource.{Ghosts as ReadySourceOf}
 pub use Rattle.futures_buffered_unordered.specs.declared.slot_stream.SlotStream.{Ghosts as SlotStreamOf}
 use Rattle.futures_buffered_unordered.specs.declared.slot_stream.PollStream.{PollStream}
-use Rattle.futures_buffered_unordered.specs.FuturesUnorderedBounded.{Bounded, AsksNone, AsksUntil, MarksSlot}
-use Rattle.futures_buffered_unordered.specs.FuturesUnorderedBounded.{IsWoken, OnlyRegisters, held_in, slots_in, with_empty_slot}
+use Rattle.futures_buffered_unordered.specs.FuturesUnorderedBounded.{Bounded, AsksNone, AsksUntil, IsWoken, MarksSlot}
+use Rattle.futures_buffered_unordered.specs.FuturesUnorderedBounded.{OnlyRegisters, held_in, slots_in, with_empty_slot}
 use Rattle.futures_buffered_unordered.specs.Held.{AllHeld}
 use Rattle.futures_buffered_unordered.specs.declared.poll_one.PollOne.{Ghosts as PollOneOf}
 

@@ -1,7 +1,8 @@
 -- What one poll of a bounded set makes of the set and of the task that polls it. A clause names the rule and the source
 -- by the ghost members of their types: `R.PollOne S.ReadySource`, or `(itself F.SlotFuture) S.ReadySource` if each
 -- future is polled itself.
-use Rattle.std.specs.Prelude.{◌≡◌, ℕ, ◌+◌, ◌<◌, Bool, cond, List, ◌++◌, map, length, Option, Some, None, OnSome, is_some}
+use Rattle.std.specs.Prelude.{◌≡◌, ℕ, ◌+◌, ◌<◌, Bool, cond, List, ◌++◌, map, length, Option, Some, None, OnSome}
+use Rattle.std.specs.Prelude.{is_some}
 use Rattle.std.specs.List.{FoldsTo}
 use Rattle.std.specs.Option.{option_to_list}
 use Rattle.futures.specs.Task.{Covers, Keeps}

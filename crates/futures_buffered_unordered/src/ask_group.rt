@@ -16,7 +16,7 @@ use futures_buffered_core::ready_source::NewSource;
 /// How a poll of groups polls one group.
 ///
 /// An impl says by `can_poll` which values may be polled. It says by `asks` what a poll of a group may return, and what
-/// it leaves of the group and of the task. A group that returns `None` holds nothing, and a pending group holds a value.
+/// it leaves of the group and of the task. A group that returns `None` holds nothing. A pending group holds a value.
 pub trait AskGroup<F: Drop, S: NewSource, K> {
     ghost use Rattle.futures.specs.declared.task.Poll.{Poll};
     ghost use Rattle.futures.specs.declared.task.context.Context.{Context};
