@@ -1,15 +1,14 @@
 -- What a command to a growing set is answered, and what it leaves of it.
-use Rattle.std.specs.Prelude.{◌≡◌, ◌⊎◌, ℕ, Bool, Option}
+use Rattle.std.specs.Prelude.{◌≡◌, ◌⊎◌, ℕ, false, length, Option}
+use Rattle.futures.specs.declared.task.context.Context.{Context}
 use Rattle.futures.specs.declared.task.Poll.{Poll as PollAnswer}
 use Rattle.futures_buffered_core.specs.ReadyCore.{Standing, Marks}
-use Rattle.futures_buffered_unordered.specs.FuturesUnorderedBounded.{PollAsks}
-use Rattle.futures_buffered_unordered.specs.Groups.{GroupsGive}
+use Rattle.futures_buffered_unordered.specs.Groups.{AsksInTurn}
 use Rattle.futures_buffered_unordered.specs.FuturesUnordered.{Growing, GrowingPushes, IsAtBound, held_in_all}
 use Rattle.futures_buffered_unordered.specs.FuturesUnordered.{spare_places}
 use Rattle.futures_buffered_unordered.specs.declared.futures_unordered.TheConstants.{FIRST_GROUP, MAX_HELD}
 use Rattle.fbuf_lines.specs.Reply.{poll_reply}
-use Rattle.fbuf_lines.specs.BoundedLines.{IsNewStanding, core_steps}
-use Rattle.fbuf_lines.specs.ReadyAfter.{PollsReadyAfter}
+use Rattle.fbuf_lines.specs.BoundedLines.{IsNewStanding, PollsSet}
 use Rattle.fbuf_lines.specs.declared.ready_after.ReadyAfter.{ReadyAfter}
 use Rattle.fbuf_lines.specs.declared.command.Command.{Command}
 use Rattle.fbuf_lines.specs.declared.command.Command.TheVariants.{Push, Poll, Len}
@@ -20,10 +19,11 @@ use Rattle.fbuf_lines.specs.declared.reply.Reply.TheVariants.{Done, Count, Bad}
 abbrev pub ScriptGrowing : Type 0
 ScriptGrowing = Growing ReadyAfter Standing
 
--- one poll of the groups of a growing set, each polled as a bounded set is, whether or not one stopped; the limit stays
+-- one poll of the groups of a growing set in turn, each polled as a bounded set is, of some task; the limit stays
 abbrev pub PollsGrowingLine : ScriptGrowing → PollAnswer (Option ℕ) → ScriptGrowing → Type 0
-PollsGrowingLine old answer new = (stopped : Bool)
-    × GroupsGive (PollAsks (λ _. PollsReadyAfter) core_steps) old.groups answer stopped new.groups
+PollsGrowingLine old answer new = (cx : Context) × (left : Context)
+    × AsksInTurn (λ _ group result group_left _ _. PollsSet group result group_left)
+    (length old.groups.listed) false old.groups answer new.groups cx left
     × (new.limit ≡ old.limit)
 
 -- one push into a growing set that can take more

@@ -9,6 +9,7 @@ use Rattle.futures.specs.declared.task.Poll.TheVariants.{Ready, Pending}
 use Rattle.futures.specs.declared.task.context.Context.{Context}
 use Rattle.futures_buffered_core.specs.SlotMap.{value_in, held_count}
 use Rattle.futures_buffered_unordered.specs.FuturesUnorderedBounded.{IsWoken}
+pub use Rattle.futures_buffered_unordered.specs.StreamAnswers.{OfSomeTask}
 use Rattle.futures_buffered_ordered.specs.Numbered.{one_at, outputs_with}
 use Rattle.futures_buffered_in_flight.specs.InFlight.{FutureOf, Flights, AnySlotGives, CanPollAll, KeyGives, FlightsWaitAt}
 use Rattle.futures_buffered_in_flight.specs.InFlight.{HasNoRoom, IsUsedUp, MakesRoom, flight_slots}
@@ -144,7 +145,3 @@ module _ {F A : Type 0} (future : FutureOf F A) where
     pub held : PollsHeld future NumberGives old answer new cx left
     -- one future fewer has the number of an output, and as many as before have each other number
     pub numbers : (i : ℕ) → flights_with i new + outputs_with i answer ≡ flights_with i old
-
--- a poll of some task, said of the set alone
-abbrev pub OfSomeTask : {Q B : Type 0} → (Q → B → Q → Context → Context → Type 0) → Q → B → Q → Type 0
-OfSomeTask polls old answer new = (cx : Context) × (left : Context) × polls old answer new cx left
