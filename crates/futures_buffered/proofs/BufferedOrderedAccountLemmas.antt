@@ -1,11 +1,10 @@
 -- That the outputs of an ordered buffer are those of the first items drawn, in order, and that no item drawn is lost.
 use Rattle.std.proofs.Common.{◌≡◌, ◌≢◌, ℕ, zero, suc, ◌+◌, ◌≤◌, Bool, List, [], ◌∷◌, ◌++◌, set, Option, Some, None, Result, MatchOption, cond, count_by, refl, sym, ap, subst, inl, inr, ◌∙◌, append-nil, append_assoc, length, arith}
-use Rattle.std.specs.Prelude.{⊤}
 use Rattle.std.specs.Option.{option_to_list}
 use Rattle.std.specs.List.{FoldsTo, AllZip, slice_get}
 use Rattle.std.proofs.lemmas.List.{get_or-set_other}
 use Rattle.std.proofs.lemmas.List.Sums.{sum_by-cons, sum_by_push}
-use Rattle.std.proofs.lemmas.Bool.{cases_eq}
+use Rattle.std.proofs.lemmas.Bool.{cases_eq, eq-eqb}
 use Rattle.std.proofs.lemmas.Bool.Decides.{eqb_tells}
 use Rattle.futures.specs.declared.task.Poll.{Poll}
 use Rattle.futures.specs.declared.task.Poll.TheVariants.{Ready, Pending}
@@ -24,6 +23,7 @@ use Rattle.futures_buffered_ordered.specs.declared.ordered_entries.Entry.{Entry}
 use Rattle.futures_buffered_ordered.specs.declared.ordered_entries.Entry.TheVariants.{Running, Kept}
 use Rattle.futures_buffered_ordered.proofs.NumberedLemmas.{count-names, in_slots, none_held, numbers_inserted, numbers_polled}
 use Rattle.futures_buffered_ordered.proofs.OrderedEntriesInvariantLemmas.{runs-set}
+use Rattle.futures_buffered_ordered.proofs.OrderedEntriesLemmas.{unused_none}
 use Rattle.futures_buffered_core.specs.declared.ready_source.ReadySource.{Ghosts as ReadySourceOf}
 use Rattle.futures_buffered_unordered.specs.declared.slot_future.SlotFuture.{Ghosts as SlotFutureOf}
 use Rattle.futures_buffered.specs.FutureQueue.{OnlyPushes}
@@ -35,9 +35,6 @@ use Rattle.futures_buffered.proofs.BufferAccountLemmas.{many_calls}
 use Rattle.futures_buffered.proofs.TryBufferAccountLemmas.{AmongErrors, error_handed, ok_drew, queue_gave}
 use Rattle.futures_buffered.proofs.BufferedOrderedLemmas.{one_slot}
 use Rattle.futures_buffered.proofs.BufferUnorderedAccountLemmas.{waits_more}
-
-None-Some : {X F : Type 0} {f : F} → None ≡ Some f → X
-None-Some e = cc
 
 Some-same : {F : Type 0} {f g : F} → Some f ≡ Some g → f ≡ g
 Some-same e = cc
@@ -54,78 +51,30 @@ zip_push P [] (d ∷ gs) e g zip p = absurd zip
 zip_push P (d ∷ es) [] e g zip p = absurd zip
 zip_push P (c ∷ es) (d ∷ gs) e g zip p = (zip.0, zip_push P es gs e g zip.1 p)
 
+counts_itself : (i : ℕ) → one_at i i ≡ 1
+counts_itself i = ap (λ (b : Bool). cond b 1 0) (eq-eqb i i refl)
+
+-- a number that does not count is another
+another : (i j : ℕ) → one_at i j ≡ 0 → j ≢ i
+another i j none = λ same. let one : one_at i j ≡ 1 = subst (λ (n : ℕ). one_at i n ≡ 1) (sym same) (counts_itself i) in absurd (omega (arith, one, none))
+
 module _ {A : Type 0} where
-  -- no entry is in progress with this number
-  abbrev FreeOf : ℕ → List (Entry A) → Type 0
-  FreeOf i [] = ⊤
-  FreeOf i (Running j ∷ es) = (j ≢ i) × FreeOf i es
-  FreeOf i (Kept x ∷ es) = FreeOf i es
-
-  -- each entry in progress has a number of its own
-  abbrev Apart : List (Entry A) → Type 0
-  Apart [] = ⊤
-  Apart (Running i ∷ es) = FreeOf i es × Apart es
-  Apart (Kept x ∷ es) = Apart es
-
-  free_push : (i j : ℕ) (es : List (Entry A)) → FreeOf i es → j ≢ i → FreeOf i (es ++ Running j ∷ [])
-  free_push i j [] free other = (other, tt)
-  free_push i j (Running k ∷ es) free other = (free.0, free_push i j es free.1 other)
-  free_push i j (Kept x ∷ es) free other = free_push i j es free other
-
-  apart_push : (i : ℕ) (es : List (Entry A)) → Apart es → FreeOf i es → Apart (es ++ Running i ∷ [])
-  apart_push i [] each free = (tt, tt)
-  apart_push i (Running j ∷ es) each free = (free_push j i es each.0 (λ same. free.0 (sym same)), apart_push i es each.1 free.1)
-  apart_push i (Kept x ∷ es) each free = apart_push i es each free
-
-  free_set : (i k : ℕ) (x : A) (es : List (Entry A)) → FreeOf i es → FreeOf i (set es k (Kept x))
-  free_set i k x [] free = tt
-  free_set i zero x (Running j ∷ es) free = free.1
-  free_set i zero x (Kept y ∷ es) free = free
-  free_set i (suc k) x (Running j ∷ es) free = (free.0, free_set i k x es free.1)
-  free_set i (suc k) x (Kept y ∷ es) free = free_set i k x es free
-
-  apart_set : (k : ℕ) (x : A) (es : List (Entry A)) → Apart es → Apart (set es k (Kept x))
-  apart_set k x [] each = tt
-  apart_set zero x (Running j ∷ es) each = each.1
-  apart_set zero x (Kept y ∷ es) each = each
-  apart_set (suc k) x (Running j ∷ es) each = (free_set j k x es each.0, apart_set k x es each.1)
-  apart_set (suc k) x (Kept y ∷ es) each = apart_set k x es each
-
-  -- an entry of the list has another number
-  not_in : (i j k : ℕ) (es : List (Entry A)) → FreeOf j es → slice_get es k ≡ Some (Running i) → j ≢ i
-  not_in i j k [] free at = λ same. None-Some at
-  not_in i j zero (Running l ∷ es) free at = λ same. free.0 (running_same at ∙ sym same)
-  not_in i j zero (Kept y ∷ es) free at = not_running at
-  not_in i j (suc k) (Running l ∷ es) free at = not_in i j k es free.1 at
-  not_in i j (suc k) (Kept y ∷ es) free at = not_in i j k es free at
-
-  -- a number of which no entry is in progress
-  free_of : (i : ℕ) (es : List (Entry A)) → IsUnused i es → FreeOf i es
-  free_of i [] unused = tt
-  free_of i (Running j ∷ es) unused = (λ same. unused 0 (ap (λ (n : ℕ). Some (Running n)) same), free_of i es (λ k at. unused (suc k) at))
-  free_of i (Kept x ∷ es) unused = free_of i es (λ k at. unused (suc k) at)
-
   abbrev runs : ℕ → Entry A → ℕ
   runs i e = cond (runs_with i e) 1 0
 
-  none_runs : (i : ℕ) (es : List (Entry A)) → FreeOf i es → count_by (runs_with i) es ≡ 0
-  none_runs i [] free = refl
-  none_runs i (Running j ∷ es) free = elim (eqb_tells j i) [
-    | inl same ↦ absurd (free.0 same.1)
-    | inr other ↦ let none : one_at i j ≡ 0 = ap (λ (b : Bool). cond b 1 0) other.0 in omega (arith, sum_by-cons (runs i) (Running j) es, none, none_runs i es free.1)
-  ]
-  none_runs i (Kept x ∷ es) free = omega (arith, sum_by-cons (runs i) (Kept x) es, none_runs i es free)
+  -- another entry in front of the one with this number has another
+  in_front : (i j k : ℕ) (x : A) (es : List (Entry A)) → count_by (runs_with i) (Running j ∷ es) ≤ 1 → slice_get es k ≡ Some (Running i) → j ≢ i
+  in_front i j k x es one at = another i j (omega (arith, one, sum_by-cons (runs i) (Running j) es, runs-set i i k es x at, counts_itself i))
 
-  -- one entry at most has a number
-  one_runs : (i : ℕ) (es : List (Entry A)) → Apart es → count_by (runs_with i) es ≤ 1
-  one_runs i [] each = omega arith
-  one_runs i (Running j ∷ es) each = elim (eqb_tells j i) [
+  -- at most one entry has a number, also after a push of a number that is not in use
+  one_pushed : (n i : ℕ) (es : List (Entry A)) → count_by (runs_with n) es ≤ 1 → IsUnused i es → count_by (runs_with n) (es ++ Running i ∷ []) ≤ 1
+  one_pushed n i es one unused = elim (eqb_tells i n) [
     | inl same ↦
-        let one : one_at i j ≡ 1 = ap (λ (b : Bool). cond b 1 0) same.0 in
-        omega (arith, sum_by-cons (runs i) (Running j) es, one, none_runs i es (subst (λ (n : ℕ). FreeOf n es) same.1 each.0))
-    | inr other ↦ let none : one_at i j ≡ 0 = ap (λ (b : Bool). cond b 1 0) other.0 in omega (arith, sum_by-cons (runs i) (Running j) es, none, one_runs i es each.1)
+        let none : count_by (runs_with n) es ≡ 0 = subst (λ (m : ℕ). count_by (runs_with m) es ≡ 0) same.1 (unused_none i es unused) in
+        let at_most : one_at n i ≡ 1 = ap (λ (b : Bool). cond b 1 0) same.0 in
+        omega (arith, sum_by_push (runs n) es (Running i), none, at_most)
+    | inr other ↦ let none : one_at n i ≡ 0 = ap (λ (b : Bool). cond b 1 0) other.0 in omega (arith, sum_by_push (runs n) es (Running i), one, none)
   ]
-  one_runs i (Kept x ∷ es) each = omega (arith, sum_by-cons (runs i) (Kept x) es, one_runs i es each)
 
 module _ {F A : Type 0} (polled : ℕ → F → Poll A → F → Type 0) where
   -- where each entry keeps what it came from, so do all
@@ -177,12 +126,14 @@ module _ {F A : Type 0} (polled : ℕ → F → Poll A → F → Type 0) where
         let apart : came.0 ≢ s = λ same. other (sym (ap (λ (n : Numbered F). n.number) (Some-same (sym gave.held ∙ (ap (λ (n : ℕ). value_in m n) (sym same) ∙ came.2)))) ∙ has_number) in
         (came.0, came.1, ap (λ (v : Slots (Numbered F)). value_in (with_slot_freed v s) came.0) gave.now_holds ∙ (value_in-with_slot_freed_other (with_value m s gave.left) s came.0 apart ∙ (get_or-set_other m.places s came.0 (Some gave.left) None apart ∙ came.2)), came.3)
 
-    others_on : (fs : List F) (es : List (Entry A)) → FreeOf i es → AllZip (BecomesEntry polled m) fs es → AllZip (BecomesEntry polled (with_slot_freed w s)) fs es
-    others_on [] [] free came = tt
-    others_on [] (e ∷ es) free came = absurd came
-    others_on (f ∷ fs) [] free came = absurd came
-    others_on (f ∷ fs) (Running j ∷ es) free came = (other_on j f free.0 came.0, others_on fs es free.1 came.1)
-    others_on (f ∷ fs) (Kept y ∷ es) free came = (came.0, others_on fs es free came.1)
+    others_on : (fs : List F) (es : List (Entry A)) → count_by (runs_with i) es ≡ 0 → AllZip (BecomesEntry polled m) fs es → AllZip (BecomesEntry polled (with_slot_freed w s)) fs es
+    others_on [] [] none came = tt
+    others_on [] (e ∷ es) none came = absurd came
+    others_on (f ∷ fs) [] none came = absurd came
+    others_on (f ∷ fs) (Running j ∷ es) none came =
+        let more = sum_by-cons (runs i) (Running j) es in
+        (other_on j f (another i j (omega (arith, more, none))) came.0, others_on fs es (omega (arith, more, none)) came.1)
+    others_on (f ∷ fs) (Kept y ∷ es) none came = (came.0, others_on fs es none came.1)
 
     -- and its entry keeps the output, since no other slot has its number
     gave_here : (f : F) → in_slots i m ≤ 1 → BecomesEntry polled m f (Running i) → MayGiveInSlot polled f x
@@ -192,16 +143,18 @@ module _ {F A : Type 0} (polled : ℕ → F → Poll A → F → Type 0) where
         let waits : PendsTo (polled s) f gave.value.future = subst (λ (v : F). PendsTo (polled s) f v) is (subst (λ (n : ℕ). PendsTo (polled n) f came.1) same came.3) in
         (s, (waits.0, gave.value.future, gave.left.future, waits.1, gave.gave.0))
 
-    finished_on : in_slots i m ≤ 1 → (k : ℕ) (fs : List F) (es : List (Entry A)) → Apart es → slice_get es k ≡ Some (Running i) → AllZip (BecomesEntry polled m) fs es → AllZip (BecomesEntry polled (with_slot_freed w s)) fs (set es k (Kept x))
-    finished_on one k [] [] each at came = tt
-    finished_on one k [] (e ∷ es) each at came = absurd came
-    finished_on one k (f ∷ fs) [] each at came = absurd came
-    finished_on one zero (f ∷ fs) (Running j ∷ es) each at came =
+    finished_on : in_slots i m ≤ 1 → (k : ℕ) (fs : List F) (es : List (Entry A)) → count_by (runs_with i) es ≤ 1 → slice_get es k ≡ Some (Running i) → AllZip (BecomesEntry polled m) fs es → AllZip (BecomesEntry polled (with_slot_freed w s)) fs (set es k (Kept x))
+    finished_on one k [] [] once at came = tt
+    finished_on one k [] (e ∷ es) once at came = absurd came
+    finished_on one k (f ∷ fs) [] once at came = absurd came
+    finished_on one zero (f ∷ fs) (Running j ∷ es) once at came =
         let same : j ≡ i = running_same at in
-        (gave_here f one (subst (λ (n : ℕ). BecomesEntry polled m f (Running n)) same came.0), others_on fs es (subst (λ (n : ℕ). FreeOf n es) same each.0) came.1)
-    finished_on one zero (f ∷ fs) (Kept y ∷ es) each at came = not_running at
-    finished_on one (suc k) (f ∷ fs) (Running j ∷ es) each at came = (other_on j f (not_in i j k es each.0 at) came.0, finished_on one k fs es each.1 at came.1)
-    finished_on one (suc k) (f ∷ fs) (Kept y ∷ es) each at came = (came.0, finished_on one k fs es each at came.1)
+        let mine : one_at i j ≡ 1 = subst (λ (n : ℕ). one_at i n ≡ 1) (sym same) (counts_itself i) in
+        (gave_here f one (subst (λ (n : ℕ). BecomesEntry polled m f (Running n)) same came.0), others_on fs es (omega (arith, once, mine, sum_by-cons (runs i) (Running j) es)) came.1)
+    finished_on one zero (f ∷ fs) (Kept y ∷ es) once at came = not_running at
+    finished_on one (suc k) (f ∷ fs) (Running j ∷ es) once at came =
+        (other_on j f (in_front i j k x es once at) came.0, finished_on one k fs es (omega (arith, once, sum_by-cons (runs i) (Running j) es)) at came.1)
+    finished_on one (suc k) (f ∷ fs) (Kept y ∷ es) once at came = (came.0, finished_on one k fs es once at came.1)
 
 module _ {F A S : Type 0} (polled : ℕ → F → Poll A → F → Type 0) where
   -- the items whose outputs were given, and the items of the entries
@@ -211,7 +164,7 @@ module _ {F A S : Type 0} (polled : ℕ → F → Poll A → F → Type 0) where
     pub all : drawn ≡ gone ++ kept
     pub gave : AllZip (MayGiveInSlot polled) gone outputs
     pub came : AllZip (BecomesEntry polled q.set.slots) kept q.entries
-    pub each : Apart q.entries
+    pub once : (n : ℕ) → count_by (runs_with n) q.entries ≤ 1
     pub as_many : (n : ℕ) → held_with n q.set ≡ count_by (runs_with n) q.entries
 
   pub drew : (marks : S → ℕ → Woke → S → Type 0) (drawn : List F) (outputs : List A) (old new : OrderedBounded F A S) (f : F) → SoFar drawn outputs old → AddsBack (PushesNumber marks) old f new → SoFar (drawn ++ f ∷ []) outputs new
@@ -229,7 +182,7 @@ module _ {F A S : Type 0} (polled : ℕ → F → Poll A → F → Type 0) where
             (zip_push (BecomesEntry polled new.set.slots) so.kept old.entries f (Running i)
             (came_on polled old.set.slots new.set.slots so.kept old.entries (pushed_on polled old.set.slots new.set.slots pushed.0 put into) so.came)
             (pushed.0, f, value_inserted old.set.slots new.set.slots pushed.0 put into, ([], refl)));
-        each = subst Apart (sym added.2) (apart_push i old.entries so.each (free_of i old.entries added.1.unused));
+        once = λ n. rw added.2 (one_pushed n i old.entries (so.once n) added.1.unused);
         as_many = λ n.
             let more : count_by (runs_with n) (old.entries ++ Running i ∷ []) ≡ count_by (runs_with n) old.entries + one_at n i = sum_by_push (runs n) old.entries (Running i) in
             omega (arith, so.as_many n, numbers_inserted n marks old.set new.set put pushed, more, ap (λ (l : List (Entry A)). count_by (runs_with n) l) added.2);
@@ -243,15 +196,15 @@ module _ {F A S : Type 0} (polled : ℕ → F → Poll A → F → Type 0) (step
       let left = h.gave.1.1 in
       let asks = h.gave.1.2 in
       let ran = ran_on polled asks.0 old.set.slots asks.2 so.kept old.entries asks.3.passes so.came in
-      let one : in_slots i asks.2 ≤ 1 = omega (arith, count-names i polled asks.0 old.set.slots asks.2 asks.3.passes, so.as_many i, one_runs i old.entries so.each) in
-      let done = finished_on polled asks.2 left.slots s i x asks.4 one h.at so.kept old.entries so.each h.was_running ran in
+      let one : in_slots i asks.2 ≤ 1 = omega (arith, count-names i polled asks.0 old.set.slots asks.2 asks.3.passes, so.as_many i, so.once i) in
+      let done = finished_on polled asks.2 left.slots s i x asks.4 one h.at so.kept old.entries (so.once i) h.was_running ran in
       record {
         gone = so.gone;
         kept = so.kept;
         all = so.all;
         gave = so.gave;
         came = rw (h.gave.1.3, h.entries) done;
-        each = rw h.entries (apart_set h.at x old.entries so.each);
+        once = λ n. omega (arith, so.once n, runs-set n i h.at old.entries x h.was_running, ap (λ (l : List (Entry A)). count_by (runs_with n) l) h.entries);
         as_many = λ n.
             omega (arith, so.as_many n, numbers_polled n polled steps old.set new.set (Ready (Some (i, x))) h.gave, runs-set n i h.at old.entries x h.was_running, ap (λ (l : List (Entry A)). count_by (runs_with n) l) h.entries);
       }
@@ -273,7 +226,7 @@ module _ {F A S : Type 0} (polled : ℕ → F → Poll A → F → Type 0) (step
             all = all ∙ sym (append_assoc so.gone (f ∷ []) fs);
             gave = zip_push (MayGiveInSlot polled) so.gone outputs f x so.gave came.0;
             came = rw same came.1;
-            each = subst Apart front so.each;
+            once = λ n. subst (λ (l : List (Entry A)). count_by (runs_with n) l ≤ 1) front (so.once n);
             as_many = λ n. rw same (so.as_many n ∙ ap (λ (l : List (Entry A)). count_by (runs_with n) l) front);
           }
 
@@ -295,7 +248,7 @@ module _ {F A S : Type 0} (polled : ℕ → F → Poll A → F → Type 0) (step
             all = then.all;
             gave = then.gave;
             came = rw step.2 (ran_on polled asks.0 h.before.set.slots new.set.slots then.kept h.before.entries asks.3.passes then.came);
-            each = rw step.2 then.each;
+            once = λ n. rw step.2 (then.once n);
             as_many = λ n. omega (arith, then.as_many n, numbers_polled n polled steps h.before.set new.set Pending step.1, ap (λ (l : List (Entry A)). count_by (runs_with n) l) step.2);
           })
 
@@ -306,7 +259,7 @@ nil_of (x ∷ xs) none = absurd (omega (arith, none))
 start : {F A S : Type 0} (polled : ℕ → F → Poll A → F → Type 0) (queue : OrderedBounded F A S) → queue_len queue ≡ 0 → held_in queue.set ≡ 0 → SoFar polled [] [] queue
 start polled queue empty none_in =
     let none = nil_of queue.entries empty in
-    record { gone = []; kept = []; all = refl; gave = tt; came = rw none tt; each = rw none tt; as_many = λ i. rw none (none_held i queue.set.slots none_in) }
+    record { gone = []; kept = []; all = refl; gave = tt; came = rw none tt; once = λ i. rw none (omega arith); as_many = λ i. rw none (none_held i queue.set.slots none_in) }
 
 account : {F A S : Type 0} (polled : ℕ → F → Poll A → F → Type 0) (drawn : List F) (outputs : List A) (queue : OrderedBounded F A S) → SoFar polled drawn outputs queue → Accounts (λ drawn items. drawn ≡ items) (MayGiveInSlot polled) (BecomesEntry polled queue.set.slots) drawn outputs queue.entries
 account polled drawn outputs queue so = record { gone = so.gone; kept = so.kept; all = so.all; gave = so.gave; became = so.came }

@@ -76,15 +76,9 @@ module _ {F A : Type 0} (gives : F → A → Type 0) (h : F → A) (exact : (f :
   resolved source outputs came =
       at_the_end source came.pairs came.next outputs came.came (came.gave ∙ in_turn tt came.pairs came.state came.turned) came.ends
 
-  -- the same of a stream that a buffer has not ended
-  pub resolved_ahead : {St : Type 0} (yields : St → Runs F) (held : Option St) (stream : St) (outputs : List A) → held ≡ Some stream
-      → Resolves gives (Ahead yields held) outputs None → (futures : List F) × yields stream futures None × (outputs ≡ map h futures)
-  resolved_ahead yields held stream outputs same came =
-      resolved (yields stream) outputs (subst (λ o. Resolves gives (Ahead yields o) outputs None) same came)
-
   -- each future gives h, so collect gives map h: of an adaptor that holds nothing yet, over such a stream
   pub collected : {St : Type 0} (yields : St → Runs F) (held : Option St) (stream : St) (before : Runs A) (outputs : List A) → held ≡ Some stream
       → ((xs : List A) → before xs None → xs ≡ []) → Chains before (Resolves gives (Ahead yields held)) outputs None
       → (futures : List F) × yields stream futures None × (outputs ≡ map h futures)
   collected yields held stream before outputs same none came =
-      resolved_ahead yields held stream outputs same (behind_nothing before (Resolves gives (Ahead yields held)) outputs none came)
+      resolved (yields stream) outputs (subst (λ o. Resolves gives (Ahead yields o) outputs None) same (behind_nothing before (Resolves gives (Ahead yields held)) outputs none came))

@@ -1,11 +1,13 @@
-use Rattle.futures_buffered.proofs.BufferedOrderedLemmas.{adds_behind, pushed_len, pushed_can}
+use Rattle.futures_buffered_ordered.specs.FuturesOrderedBounded.{PushesNumber}
+use Rattle.futures_buffered_ordered.proofs.OrderedEntriesLemmas.{one_entry_more}
+use Rattle.futures_buffered.proofs.BufferedOrderedLemmas.{adds_behind, pushed_can}
 use Rattle.futures_buffered.proofs.buffered_ordered.OrderedQueueFutureQueue.push.Goals as goal
 
 pub returns-clause-queue : goal.returns-clause-queue
 returns-clause-queue g c =
     let push = c.push_back.ensures in
     rw (← c.self.view_is) (record {
-      one_more = pushed_len g.S.ReadySource.marks c.self.inside.queue c.push_back.new.self c.args.future push.pushed;
+      one_more = one_entry_more (PushesNumber g.S.ReadySource.marks) c.self.inside.queue c.push_back.new.self c.args.future push.pushed;
       stays = tt;
       same_room = push.capacity;
     })
