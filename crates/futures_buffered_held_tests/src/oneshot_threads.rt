@@ -81,7 +81,7 @@ fn sum_of(all: &Vec<Answer>) -> u64 {
         .fold(0u64, |sum, one| sum.saturating_add(one.unwrap_or(1_000)))
 }
 
-// Sends and polls meet at a one-shot in every order.
+// A thread sends while the task polls, so that sends and polls meet at a one-shot in many orders.
 #[test]
 fn two_thousand_while_they_are_polled(rt: HostRuntime) -> Result<(), Fail> {
     let (mut receivers, mut threads) = (Vec::new(rt.alloc()), Vec::new(rt.alloc()));
