@@ -1,5 +1,5 @@
 -- What a push and a poll of futures in flight are to a buffer.
-use Rattle.std.proofs.Common.{◌≡◌, ◌<◌, ℕ, List, [], inl, inr, length, Option, Some, None, is_some, cond, false, true, sym, subst, arith}
+use Rattle.std.proofs.Common.{◌≡◌, ◌<◌, ℕ, List, [], inl, inr, length, Option, Some, None, is_some, cond, false, true, ap, refl, sym, subst, arith}
 use Rattle.std.proofs.lemmas.List.{get_or_past}
 use Rattle.std.proofs.lemmas.List.Sums.{get_or-le-sum_by}
 use Rattle.std.proofs.lemmas.Bool.{cases_lt}
@@ -8,14 +8,19 @@ use Rattle.futures.specs.declared.task.Poll.TheVariants.{Ready, Pending}
 use Rattle.futures.specs.declared.task.context.Context.{Context}
 use Rattle.futures.specs.Poll.{OnPending}
 use Rattle.futures_buffered_core.specs.SlotMap.{Slots, value_in, held_count}
-use Rattle.futures_buffered_unordered.specs.StreamAnswers.{StreamAnswers, stream_of}
+use Rattle.futures_buffered_unordered.specs.StreamAnswers.{stream_of}
 use Rattle.futures_buffered_unordered.proofs.HeldGivesLemmas.{Gathers-Within, Gathers-After}
 use Rattle.futures_buffered_in_flight.specs.InFlight.{AnySlotGives, ComesFromSlots, Flights, FlightsWaitAt, FutureOf, flight_slots}
 use Rattle.futures_buffered_ordered.specs.declared.ordered_entries.Entry.{Entry}
-use Rattle.futures_buffered_in_flight.specs.InFlightOrdered.{CanPollOrdered, ComesOfEach, OrderedInFlight, OrderedWaitsAt, PollsInTurn, PushesBack, ordered_room}
+use Rattle.futures_buffered_ordered.specs.OrderedEntries.{Ordered}
+use Rattle.futures_buffered_in_flight.specs.InFlightOrdered.{AnswersInTurn, CanPollOrdered, ComesOfEach, EntersBack, OrderedWaitsAt, ordered_room}
+use Rattle.futures_buffered_in_flight.specs.declared.in_flight.Came.{Came}
+use Rattle.futures_buffered_in_flight.specs.declared.in_flight.Place.{Place}
+use Rattle.futures_buffered_in_flight.proofs.InFlightLemmas.{came_under, polled_tags}
 use Rattle.futures_buffered_in_flight.proofs.InFlightOrderedLemmas.{answers_in_turn}
 pub use Rattle.futures_buffered_in_flight.proofs.InFlightQueueLemmas.{new_can_poll}
-use Rattle.futures_buffered_in_flight.specs.InFlightQueue.{CanPollQueue, PollsQueued, PushesQueued, flight_count}
+use Rattle.futures_buffered_in_flight.proofs.InFlightQueueLemmas.{added_gives, added_one, flight_count, kept_room, polled_room}
+use Rattle.futures_buffered_in_flight.specs.InFlightQueue.{CanPollQueue, PollsQueued, PushesQueued}
 use Rattle.futures_buffered.specs.FutureQueue.{AddsOutput, PollsFutureQueue, PushAddsOutput, PushLeavesQueue}
 use Rattle.futures_buffered.proofs.BufferedOrderedLemmas.{starts_some}
 
@@ -28,80 +33,113 @@ some_held {P} m i p found =
     omega (arith, rw found at (get_or-le-sum_by (λ (o : Option P). cond (is_some o) 1 0) m.places i None within))
 
 -- how many an ordered queue holds
-abbrev entry_count : {F A : Type 0} → OrderedInFlight F A → ℕ
+abbrev entry_count : {F A : Type 0} → Ordered (Flights F ℕ) A → ℕ
 entry_count q = length q.entries
 
 module _ {F A T : Type 0} (future : FutureOf F A) where
   -- where a future may give an output, one is held
   counts : (s : Flights F T) (x : A) → AnySlotGives future s x → 0 < flight_count s
-  counts s x h = some_held s.slots h.0 h.1.0 h.1.1
+  counts s x h = some_held s.slots h.1.0.slot _ h.1.1
 
   comes_first : (s : Flights F T) (x : A) → AnySlotGives future s x → ComesFromSlots future s [] (Some x)
   comes_first s x h = record { each = tt; ends = (h, counts s x h) }
 
-  adds : (old new : Flights F T) (f : F) → PushesQueued future old f new → AddsOutput false (ComesFromSlots future old) (future.gives f) (ComesFromSlots future new)
-  adds old new f p x came =
-      elim (p.gives x came.1.ends.0) [
-        | inl was ↦ inl ([], comes_first old x was)
-        | inr own ↦ inr own
+  adds : (old new : Flights F T) (f : F) (tag : T) → PushesQueued future false old f tag new → AddsOutput false (ComesFromSlots future old) (future.gives f) (ComesFromSlots future new)
+  adds old new f tag p x came =
+      elim (added_gives future old new f tag false p.0 (came.1.ends.0.0, x) came.1.ends.0.1) [
+        | inl was ↦ inl ([], comes_first old x (came.1.ends.0.0, was))
+        | inr own ↦ inr own.1
       ]
 
-  pub push_leaves : (old new : Flights F T) (f : F) → PushesQueued future old f new → PushLeavesQueue {A = A} flight_count flight_slots old None new
-  push_leaves old new f p = record { one_more = p.one_more; stays = tt; same_room = p.same_room }
+  pub push_leaves : (old new : Flights F T) (f : F) (tag : T) → PushesQueued future false old f tag new → PushLeavesQueue {A = A} flight_count flight_slots old None new
+  push_leaves old new f tag p = record { one_more = added_one future old new f tag false p.0; stays = tt; same_room = kept_room future old new f tag false p.0 }
 
-  pub push_adds : (old new : Flights F T) (f : F) → PushesQueued future old f new → PushAddsOutput false (ComesFromSlots future) (future.gives f) old None new
-  push_adds old new f p = record { adds = adds old new f p; value = tt; overtakes = tt }
+  pub push_adds : (old new : Flights F T) (f : F) (tag : T) → PushesQueued future false old f tag new → PushAddsOutput false (ComesFromSlots future) (future.gives f) old None new
+  push_adds old new f tag p = record { adds = adds old new f tag p; value = tt; overtakes = tt }
 
-  answers : (old new : Flights F T) (answer : Poll (Option A)) (cx left : Context) → PollsQueued future old answer new cx left → StreamAnswers (stream_of (CanPollQueue future) FlightsWaitAt (ComesFromSlots future)) old answer new cx left
-  answers old new (Ready None) cx left p =
-      record { value = record { each = tt; ends = let k = p.gave.0 in omega (arith, k) }; rest = tt; same = tt; goes = tt; again = tt; registered = tt; kept = p.kept }
-  answers old new (Ready (Some x)) cx left p =
-      record {
-        value = comes_first old x p.gave.0;
-        rest = Gathers-After p.narrows (flight_count old) (flight_count new) x p.gave.1 p.gave.0;
-        same = tt;
-        goes = p.again;
-        again = tt;
-        registered = tt;
-        kept = p.kept;
-      }
-  answers old new Pending cx left p =
-      record {
-        value = tt;
-        rest = tt;
-        same = Gathers-Within p.narrows (flight_count old) (flight_count new) p.gave.1;
-        goes = tt;
-        again = p.again;
-        registered = p.registered;
-        kept = p.kept;
-      }
+  abbrev output_of : Came A T → A
+  output_of came = came.output
+
+  abbrev PollsOutput : Flights F T → Poll (Option A) → Flights F T → Context → Context → Type 0
+  PollsOutput = PollsQueued future output_of
 
   -- a poll is one of what a buffer holds
-  pub polls_queue : (old new : Flights F T) (answer : Poll (Option A)) (cx left : Context) → PollsQueued future old answer new cx left
-      → PollsFutureQueue (PollsQueued future) flight_count flight_slots (stream_of (CanPollQueue future) FlightsWaitAt (ComesFromSlots future)) old answer new cx left
-  polls_queue old new (Ready None) cx left p =
-      record { polled = p; empty = p.gave; holds = tt; fewer = tt; same_count = tt; same_room = p.same_room; some = p.some; bound = p.bound; as_stream = answers old new (Ready None) cx left p }
-  polls_queue old new (Ready (Some x)) cx left p =
-      record { polled = p; empty = tt; holds = tt; fewer = p.gave.1; same_count = tt; same_room = p.same_room; some = p.some; bound = p.bound; as_stream = answers old new (Ready (Some x)) cx left p }
-  polls_queue old new Pending cx left p =
-      record { polled = p; empty = tt; holds = omega (arith, p.gave.0, p.gave.1); fewer = tt; same_count = p.gave.1; same_room = p.same_room; some = p.some; bound = p.bound; as_stream = answers old new Pending cx left p }
+  pub polls_queue : (old new : Flights F T) (answer : Poll (Option A)) (cx left : Context) → CanPollQueue future old → PollsOutput old answer new cx left
+      → PollsFutureQueue PollsOutput flight_count flight_slots (stream_of (CanPollQueue future) FlightsWaitAt (ComesFromSlots future)) old answer new cx left
+  polls_queue old new (Ready None) cx left can p =
+      record {
+        polled = p;
+        empty = (p.0.gave.0, p.0.gave.3 can.none_cancelled);
+        holds = tt;
+        fewer = tt;
+        same_count = tt;
+        same_room = (polled_room future old new (Ready None) p.0.gave).0;
+        some = p.1.some;
+        bound = p.1.bound;
+        as_stream = record { value = record { each = tt; ends = let k = p.0.gave.0 in omega (arith, k) }; rest = tt; same = tt; goes = tt; again = tt; registered = tt; kept = p.0.kept };
+      }
+  polls_queue old new (Ready (Some x)) cx left can p =
+      let came = p.0 in
+      let poll = p.2 in
+      let gives : AnySlotGives future old x = subst (λ (y : A). AnySlotGives future old y) (sym p.1) (came.tag, came_under future old new came poll.gave) in
+      record {
+        polled = p;
+        empty = tt;
+        holds = tt;
+        fewer = poll.gave.fewer;
+        same_count = tt;
+        same_room = (polled_room future old new (Ready (Some came)) poll.gave).0;
+        some = p.3.some;
+        bound = p.3.bound;
+        as_stream = record {
+          value = comes_first old x gives;
+          rest = Gathers-After (λ y h. (h.0, polled_tags future old new (Ready (Some came)) poll.gave poll.narrows (h.0, y) h.1)) (flight_count old) (flight_count new) x poll.gave.fewer gives;
+          same = tt;
+          goes = p.3;
+          again = tt;
+          registered = tt;
+          kept = poll.kept;
+        };
+      }
+  polls_queue old new Pending cx left can p =
+      let poll = p.0 in
+      let count : flight_count new ≡ flight_count old = ap (λ (s : Slots (Place T)). held_count s) poll.gave.1 in
+      record {
+        polled = p;
+        empty = tt;
+        holds = omega (arith, poll.gave.0, count);
+        fewer = tt;
+        same_count = count;
+        same_room = (polled_room future old new Pending poll.gave).0;
+        some = p.1.some;
+        bound = p.1.bound;
+        as_stream = record {
+          value = tt;
+          rest = tt;
+          same = Gathers-Within (λ y h. (h.0, polled_tags future old new Pending poll.gave poll.narrows (h.0, y) h.1)) (flight_count old) (flight_count new) count;
+          goes = tt;
+          again = p.1;
+          registered = poll.registered;
+          kept = poll.kept;
+        };
+      }
 
 module _ {F A : Type 0} (future : FutureOf F A) where
-  pub push_leaves_ordered : (old new : OrderedInFlight F A) (f : F) → PushesBack future old f new → PushLeavesQueue {A = A} entry_count ordered_room old None new
+  pub push_leaves_ordered : (old new : Ordered (Flights F ℕ) A) (f : F) → EntersBack future false old f new → PushLeavesQueue {A = A} entry_count ordered_room old None new
   push_leaves_ordered old new f p = record { one_more = p.one_more; stays = tt; same_room = p.same_room }
 
-  pub push_adds_ordered : (old new : OrderedInFlight F A) (f : F) → PushesBack future old f new → PushAddsOutput true (ComesOfEach future) (future.gives f) old None new
+  pub push_adds_ordered : (old new : Ordered (Flights F ℕ) A) (f : F) → EntersBack future false old f new → PushAddsOutput true (ComesOfEach future) (future.gives f) old None new
   push_adds_ordered old new f p = record { adds = p.comes; value = tt; overtakes = tt }
 
 -- a pending queue has a future in progress, and so an entry
-in_turn_holds : {F A : Type 0} (future : FutureOf F A) (old new : OrderedInFlight F A) (answer : Poll (Option A)) (cx left : Context) → PollsInTurn future old answer new cx left → OnPending answer (0 < length new.entries)
+in_turn_holds : {F A : Type 0} (future : FutureOf F A) (old new : Ordered (Flights F ℕ) A) (answer : Poll (Option A)) (cx left : Context) → AnswersInTurn future false old answer new cx left → OnPending answer (0 < length new.entries)
 in_turn_holds future old new (Ready o) cx left p = tt
 in_turn_holds {A = A} future old new Pending cx left p =
-    let last = p.polls.gave.last_step in
-    subst (λ (es : List (Entry A)). 0 < length es) (sym last.2) (starts_some p.polls.gave.before.entries last.0)
+    let last = p.gave.last_step in
+    subst (λ (es : List (Entry A)). 0 < length es) (sym last.2) (starts_some p.gave.before.entries last.0)
 
-pub polls_queue_ordered : {F A : Type 0} (future : FutureOf F A) (old new : OrderedInFlight F A) (answer : Poll (Option A)) (cx left : Context) → PollsInTurn future old answer new cx left
-    → PollsFutureQueue (PollsInTurn future) entry_count ordered_room (stream_of (CanPollOrdered future) OrderedWaitsAt (ComesOfEach future)) old answer new cx left
+pub polls_queue_ordered : {F A : Type 0} (future : FutureOf F A) (old new : Ordered (Flights F ℕ) A) (answer : Poll (Option A)) (cx left : Context) → AnswersInTurn future false old answer new cx left
+    → PollsFutureQueue (AnswersInTurn future false) entry_count ordered_room (stream_of (CanPollOrdered future) OrderedWaitsAt (ComesOfEach future)) old answer new cx left
 polls_queue_ordered future old new answer cx left poll =
     record {
       polled = poll;
@@ -109,8 +147,8 @@ polls_queue_ordered future old new answer cx left poll =
       holds = in_turn_holds future old new answer cx left poll;
       fewer = poll.fewer;
       same_count = poll.same_count;
-      same_room = poll.same_room;
-      some = poll.some;
-      bound = poll.bound;
+      same_room = poll.same_room.0;
+      some = poll.again.some;
+      bound = poll.bound refl;
       as_stream = answers_in_turn future old new answer cx left poll;
     }

@@ -9,10 +9,11 @@ use Rattle.std.proofs.lemmas.Option.{same_Some}
 use Rattle.futures_buffered_table.specs.declared.answer.TheConstants.{MAX_CAPACITY}
 use Rattle.futures_buffered_core.specs.Drawn.{Items, Draws}
 use Rattle.futures_buffered_core.specs.SlotMap.{Slots, value_in, held_count, slot_count}
+use Rattle.futures_buffered_ordered.specs.OrderedEntries.{Ordered}
 use Rattle.futures_buffered_unordered.specs.Extended.{EachDrawn}
 use Rattle.futures_buffered_unordered.proofs.HeldGivesLemmas.{None-Some}
-use Rattle.futures_buffered_in_flight.specs.InFlight.{FutureOf, Flights, CanPollAll, IsNewInFlight, KeyGives, SlotGives, EntersAt, FliesInOrder, flight_slots, room_taken}
-use Rattle.futures_buffered_in_flight.specs.InFlightOrdered.{EntersBack, HoldsInTurn, IsNewInOrder, OrderedInFlight, ordered_room}
+use Rattle.futures_buffered_in_flight.specs.InFlight.{FutureOf, Flights, CanPollAll, IsNewInFlight, MayCome, SlotGives, EntersAt, FliesInOrder, flight_slots, room_taken}
+use Rattle.futures_buffered_in_flight.specs.InFlightOrdered.{EntersBack, HoldsInTurn, IsNewInOrder, ordered_room}
 use Rattle.futures_buffered_in_flight.specs.InFlightQueue.{KeepsRoom}
 use Rattle.futures_buffered_in_flight.proofs.InFlightQueueLemmas.{its_place, none_held}
 use Rattle.futures_buffered_in_flight.specs.declared.in_flight.Place.{Place}
@@ -72,7 +73,7 @@ module _ {F O : Type 0} (future : FutureOf F O) where
       its_own k x same h =
           let place : h.0 ≡ record { tag = tt; push = key.push } = same_Some _ _ (sym h.1 ∙ (ap (λ i. value_in new.slots i) same ∙ its_place future old new f tt key p)) in
           let at : record { slot = k; push = h.0.push } ≡ key = ap₂ (λ (slot push : ℕ). record { slot = slot; push = push }) same (ap (λ (p : Place (Unit {0})). p.push) place) in
-          p.own x (subst (λ (key : Key). KeyGives future new key x) at h.2)
+          p.own x (subst (λ (key : Key). MayCome future new (key, Some x)) at h.2)
 
       others : (k : ℕ) (item : F) (x : O) → k ≢ key.slot → slice_get xs k ≡ Some item → SlotGives future new k x → future.gives item x
       others k item x other got h =
@@ -122,18 +123,18 @@ module _ {F O : Type 0} (future : FutureOf F O) where
 
 module _ {F A : Type 0} where
   -- as many as a new queue is made for can be held
-  pub new_room : (n : ℕ) (q : OrderedInFlight F A) → IsNewInOrder n q → ordered_room q ≡ n
+  pub new_room : (n : ℕ) (q : Ordered (Flights F ℕ) A) → IsNewInOrder n q → ordered_room q ≡ n
   new_room n q new = ap (λ (s : Slots (Place ℕ)). slot_count s) new.new_set.0 ∙ length-replicate n None
 
   -- these items went into a new queue, one after another
-  pub holds_in_turn : (future : FutureOf F A) (grows : Bool) (items : List F) (n : ℕ) (start q : OrderedInFlight F A) → n ≡ length items → IsNewInOrder (max 1 n) start → FoldsTo (EntersBack future grows) start items q → length q.entries ≡ n → HoldsInTurn future grows items q
+  pub holds_in_turn : (future : FutureOf F A) (grows : Bool) (items : List F) (n : ℕ) (start q : Ordered (Flights F ℕ) A) → n ≡ length items → IsNewInOrder (max 1 n) start → FoldsTo (EntersBack future grows) start items q → length q.entries ≡ n → HoldsInTurn future grows items q
   holds_in_turn future grows items n start q is new pushed count =
       record { start = start; is_new = subst (λ m. IsNewInOrder (max 1 m) start) is new; pushed = pushed; one_each = count ∙ is }
 
   -- so a bounded queue has as many slots as the new queue
-  pub few_slots : (grows : Bool) (n : ℕ) (start q : OrderedInFlight F A) → IsNewInOrder n start → n ≤ MAX_CAPACITY → KeepsRoom grows start.set q.set → grows ≡ false → ordered_room q ≤ MAX_CAPACITY
+  pub few_slots : (grows : Bool) (n : ℕ) (start q : Ordered (Flights F ℕ) A) → IsNewInOrder n start → n ≤ MAX_CAPACITY → KeepsRoom grows start.set q.set → grows ≡ false → ordered_room q ≤ MAX_CAPACITY
   few_slots true n start q new few same bounded = absurd (true≢false bounded)
   few_slots false n start q new few same bounded = omega (arith, new_room n start new, few, same)
 
-  pub none_pushed : (n : ℕ) (q : OrderedInFlight F A) → IsNewInOrder n q → length q.entries ≡ 0
+  pub none_pushed : (n : ℕ) (q : Ordered (Flights F ℕ) A) → IsNewInOrder n q → length q.entries ≡ 0
   none_pushed n q new = ap length new.no_entries

@@ -1,12 +1,13 @@
 -- What may come from the kit's set, from the futures that wait and from the slots, and what each call leaves of the set.
 use Rattle.std.proofs.Common.{◌≡◌, ◌<◌, ◌≤◌, ℕ, ◌+◌, ◌-◌, ◌^◌, List, [], ◌∷◌, ◌++◌, Option, Some, None, IfSome, is_some, count_by, cond, length, length-set, zero, suc, Bool, true, false, ap, refl, sym, subst, ◌∙◌, ◌⊎◌, inl, inr, arith}
 use Rattle.std.specs.Prelude.{Ok, Err, min}
+use Rattle.std.specs.List.{AllByRecursion}
 use Rattle.std.proofs.lemmas.Bool.{cases_eq, false≢true}
 use Rattle.std.proofs.lemmas.List.Sums.{sum_by-cons}
 use Rattle.std.proofs.lemmas.List.{length_push}
 use Rattle.futures.proofs.SentLemmas.{AllByRecursion-push}
 use Rattle.futures.specs.Runs.{After, Within}
-use Rattle.futures.specs.Queued.{AnyGives, Gathers, GivesNoMore, AllPollable, set_places, set_len}
+use Rattle.futures.specs.Queued.{AnyGives, AnyMay, Gathers, GivesNoMore, AllPollable, set_places, set_len}
 use Rattle.futures.specs.declared.stream.futures_unordered.FuturesUnordered.{FuturesUnordered}
 use Rattle.futures.specs.declared.task.Poll.{Poll}
 use Rattle.futures.specs.declared.task.Poll.TheVariants.{Ready, Pending}
@@ -15,12 +16,27 @@ use Rattle.futures.specs.declared.task.context.Context.{Context}
 use Rattle.futures_buffered_core.specs.SlotMap.{Slots, value_in, held_count, with_slot_freed, Inserts}
 use Rattle.futures_buffered_unordered.specs.FuturesUnorderedBounded.{IsWoken}
 use Rattle.futures_buffered_unordered.proofs.HeldGivesLemmas.{Gathers-Within, Gathers-After, value_in-with_slot_freed, value_in-with_slot_freed_other, None-Some}
-use Rattle.futures_buffered_in_flight.specs.InFlight.{FutureOf, Flights, AnyRunGives, AnySlotGives, AnyWaitGives, CanPollAll, CanPollRuns, CanPollWaiting, ComesByKey, ComesFromSlots, EntersAt, FlightsGiveNoMore, FlightsWaitAt, GivesByKey, HasEach, HasNoRoom, IsHeld, IsUsedUp, MakesRoom, MayCome, PollsInFlight, PushesInFlight, WaitGives, flight_slots, run_count}
+use Rattle.futures_buffered_in_flight.specs.InFlight.{FutureOf, Flights, CanPollAll, ComesByKey, ComesFromSlots, EntersAt, FlightsGiveNoMore, FlightsWaitAt, GivesByKey, GivesWithKey, HasNoRoom, IsHeld, IsUsedUp, MakesRoom, MayCome, PollsInFlight, PushesInFlight, TagGives, WaitGives, flight_slots, room_taken, run_count, runs_in}
 use Rattle.futures_buffered_in_flight.specs.InFlightTurns.{Flies, Starts}
 use Rattle.futures_buffered_in_flight.specs.declared.in_flight.Came.{Came}
 use Rattle.futures_buffered_in_flight.specs.declared.in_flight.Place.{Place}
 use Rattle.futures_buffered_in_flight.specs.declared.run.Key.{Key}
+use Rattle.futures_buffered_in_flight.specs.declared.run.Run.{Run}
 use Rattle.futures_buffered_in_flight.specs.declared.run.Waits.{Waits}
+
+-- what the futures that run, and those that wait, may give, and that they may be polled
+module _ {F A : Type 0} (future : FutureOf F A) where
+  abbrev AnyRunGives : Option (FuturesUnordered (Run F)) → Key × Option A → Type 0
+  AnyRunGives running = AnyGives (GivesWithKey future.gives) (runs_in running)
+
+  abbrev AnyWaitGives : List (Waits F) → Key × Option A → Type 0
+  AnyWaitGives = AnyMay (WaitGives future)
+
+  abbrev CanPollRuns : Option (FuturesUnordered (Run F)) → Type 0
+  CanPollRuns running = AllPollable (λ (run : Run F). future.can_poll run.future) (runs_in running)
+
+  abbrev CanPollWaiting : List (Waits F) → Type 0
+  CanPollWaiting = AllByRecursion (λ (w : Waits F). future.can_poll w.future)
 
 module _ {F A : Type 0} (gives : F → A → Type 0) where
   -- if one of the places may give something, a place is held
@@ -76,30 +92,36 @@ module _ {F A : Type 0} (future : FutureOf F A) where
   any_push (v ∷ ws) w came (inr more) = elim (any_push ws w came more) [ inl was ↦ inl (inr was) | inr own ↦ inr own ]
 
 module _ {F A T : Type 0} (future : FutureOf F A) where
-  -- what a slot may give after a poll, it might give before
-  pub slots_within : (old new : Flights F T) → new.slots ≡ old.slots → FlightsGiveNoMore future old new → (x : A) → AnySlotGives future new x → AnySlotGives future old x
-  slots_within old new same narrows x h =
-      (h.0, (h.1.0, subst (λ s. value_in s h.0 ≡ Some h.1.0) same h.1.1, narrows (record { slot = h.0; push = h.1.0.push }, Some x) h.1.2))
+  -- what may come under a tag after a call, might before
+  pub tags_within : (old new : Flights F T) → new.slots ≡ old.slots → FlightsGiveNoMore future old new → (out : T × A) → TagGives future new out → TagGives future old out
+  tags_within old new same narrows out h = (h.0, subst (λ s. value_in s h.0.slot ≡ Some (record { tag = out.0; push = h.0.push })) same h.1, narrows (h.0, Some out.1) h.2)
 
-  pub any : (old new : Flights F T) (came : Came A T) → ComesByKey future old came new → AnySlotGives future old came.output
-  any old new came y = (came.key.slot, (record { tag = came.tag; push = came.key.push }, y.was_held, y.gave))
-
-  pub slots_after : (old new : Flights F T) (slot : ℕ) → new.slots ≡ with_slot_freed old.slots slot → FlightsGiveNoMore future old new → (x : A) → AnySlotGives future new x → AnySlotGives future old x
-  slots_after old new slot same narrows x h =
-      let holds = subst (λ s. value_in s h.0 ≡ Some h.1.0) same h.1.1 in
-      elim (cases_eq h.0 slot) [
-        | inl at ↦ absurd (None-Some (sym (value_in-with_slot_freed old.slots slot) ∙ subst (λ i. value_in (with_slot_freed old.slots slot) i ≡ Some h.1.0) at holds))
-        | inr other ↦ (h.0, (h.1.0, sym (value_in-with_slot_freed_other old.slots slot h.0 other) ∙ holds, narrows (record { slot = h.0; push = h.1.0.push }, Some x) h.1.2))
+  tags_after : (old new : Flights F T) (slot : ℕ) → new.slots ≡ with_slot_freed old.slots slot → FlightsGiveNoMore future old new → (out : T × A) → TagGives future new out → TagGives future old out
+  tags_after old new slot same narrows out h =
+      let holds = subst (λ s. value_in s h.0.slot ≡ Some (record { tag = out.0; push = h.0.push })) same h.1 in
+      elim (cases_eq h.0.slot slot) [
+        | inl at ↦ absurd (None-Some (sym (value_in-with_slot_freed old.slots slot) ∙ subst (λ i. value_in (with_slot_freed old.slots slot) i ≡ Some (record { tag = out.0; push = h.0.push })) at holds))
+        | inr other ↦ (h.0, sym (value_in-with_slot_freed_other old.slots slot h.0.slot other) ∙ holds, narrows (h.0, Some out.1) h.2)
       ]
 
+  -- what may come under a tag after a poll, might before
+  pub polled_tags : (old new : Flights F T) (answer : Poll (Option (Came A T))) → GivesByKey future old answer new → FlightsGiveNoMore future old new → (out : T × A) → TagGives future new out → TagGives future old out
+  polled_tags old new (Ready None) gave narrows = tags_within old new gave.1 narrows
+  polled_tags old new (Ready (Some came)) gave narrows = tags_after old new came.key.slot gave.freed narrows
+  polled_tags old new Pending gave narrows = tags_within old new gave.1 narrows
+
+  -- an output is one that a future held under its tag may give
+  pub came_under : (old new : Flights F T) (came : Came A T) → ComesByKey future old came new → TagGives future old (came.tag, came.output)
+  came_under old new came y = (came.key, y.was_held, y.gave)
+
   pub comes_within : (old new : Flights F T) → new.slots ≡ old.slots → FlightsGiveNoMore future old new → Within (ComesFromSlots future old) (ComesFromSlots future new)
-  comes_within old new same narrows = Gathers-Within (slots_within old new same narrows) (held_count old.slots) (held_count new.slots) (subst (λ s. held_count s ≡ held_count old.slots) (sym same) refl)
+  comes_within old new same narrows = Gathers-Within (λ x h. (h.0, tags_within old new same narrows (h.0, x) h.1)) (held_count old.slots) (held_count new.slots) (subst (λ s. held_count s ≡ held_count old.slots) (sym same) refl)
 
   pub comes_after : (old new : Flights F T) (came : Came A T) → ComesByKey future old came new → FlightsGiveNoMore future old new → After (ComesFromSlots future old) came.output (ComesFromSlots future new)
-  comes_after old new came y narrows = Gathers-After (slots_after old new came.key.slot y.freed narrows) (held_count old.slots) (held_count new.slots) came.output y.fewer (any old new came y)
+  comes_after old new came y narrows = Gathers-After (λ x h. (h.0, tags_after old new came.key.slot y.freed narrows (h.0, x) h.1)) (held_count old.slots) (held_count new.slots) came.output y.fewer (came.tag, came_under old new came y)
 
   pub comes_first : (old new : Flights F T) (came : Came A T) → ComesByKey future old came new → ComesFromSlots future old [] (Some came.output)
-  comes_first old new came y = record { each = tt; ends = (any old new came y, let k = y.fewer in omega (arith, k)) }
+  comes_first old new came y = record { each = tt; ends = ((came.tag, came_under old new came y), let k = y.fewer in omega (arith, k)) }
 
 module _ {F A T : Type 0} (future : FutureOf F A) where
   -- a set without a future may be polled
@@ -151,15 +173,6 @@ module _ {F A T : Type 0} (future : FutureOf F A) where
         slots = slots;
         rest = (cancelled, next);
       }
-
-  -- it waits for good
-  pub waits_for_good : (old new : Flights F T) (value : Waits F) → CanPollRuns future old.running → CanPollWaiting future old.waiting
-      → future.can_poll value.future
-      → new.running ≡ old.running
-      → new.slots ≡ old.slots → new.next ≡ old.next → new.cancelled ≡ old.cancelled → new.waiting ≡ old.waiting ++ value ∷ []
-      → Flies future old value new
-  waits_for_good old new value each waits fit same slots next cancelled at_end =
-      left_waiting old new value waits fit (subst (λ runs. CanPollRuns future runs) (sym same) each) (λ came run. subst (λ runs. AnyRunGives future runs came) same run) (ap run_count same) slots next cancelled at_end
 
   -- a future went in under the next number
   pub entered : (old mid new : Flights F T) (key : Key) (f : F) (tag : T) → CanPollAll future old
@@ -366,7 +379,7 @@ module _ {F A T : Type 0} (future : FutureOf F A) where
   -- the kit's set is pending
   pub waited : (old new : Flights F T) (cx asked left : Context) → Starts future old new → 0 < held_count old.slots
       → Covers asked (FlightsWaitAt new) → Keeps cx asked → Keeps asked left → new.waiting ≡ old.waiting → ((old.waiting ≡ []) ⊎ IsWoken cx)
-      → (HasEach new ⊎ IsWoken left) → ((new.cancelled ≡ 0) ⊎ IsWoken left) → PollsInFlight future old Pending new cx left
+      → ((run_count new.running + length new.waiting ≡ room_taken new) ⊎ IsWoken left) → ((new.cancelled ≡ 0) ⊎ IsWoken left) → PollsInFlight future old Pending new cx left
   waited old new cx asked left s some registered kept keeps waiting started stays ended =
       record {
         gave = (some, s.slots);

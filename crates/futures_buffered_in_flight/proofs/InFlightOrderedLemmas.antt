@@ -1,5 +1,5 @@
 -- What the calls of an ordered queue of futures in flight leave of it.
-use Rattle.std.proofs.Common.{◌≡◌, ◌<◌, ◌≤◌, ◌^◌, ℕ, Bool, true, false, List, [], ◌∷◌, length, cond, is_some, Option, Some, None, ◌⊎◌, inl, inr, refl, sym, ap, ◌∙◌, arith}
+use Rattle.std.proofs.Common.{◌≡◌, ◌+◌, ◌<◌, ◌≤◌, ◌^◌, ℕ, Bool, true, false, List, [], ◌∷◌, length, cond, is_some, Option, Some, None, ◌⊎◌, inl, inr, refl, sym, subst, ap, ◌∙◌, arith}
 use Rattle.std.specs.List.{FoldsTo}
 use Rattle.std.specs.Prelude.{Result, Ok, Err, OnOk, IfErr, IsErr}
 use Rattle.std.proofs.lemmas.Bool.{false≢true, true≢false}
@@ -8,22 +8,26 @@ use Rattle.std.proofs.lemmas.List.Folds.{sum_by-replicate}
 use Rattle.futures.specs.declared.task.Poll.{Poll}
 use Rattle.futures.specs.declared.task.Poll.TheVariants.{Ready, Pending}
 use Rattle.futures.specs.Poll.{OnPending}
-use Rattle.futures.specs.Runs.{Runs}
+use Rattle.futures.specs.Runs.{Runs, Within}
 use Rattle.futures.specs.declared.task.context.Context.{Context}
 use Rattle.futures_buffered_core.specs.SlotMap.{Slots, held_count, no_slots}
 use Rattle.futures_buffered_unordered.specs.FuturesUnorderedBounded.{IsWoken}
 use Rattle.futures_buffered_unordered.specs.StreamAnswers.{StreamAnswers, stream_of}
+use Rattle.futures_buffered_unordered.specs.declared.poll_one.PollFuture.{PollFuture}
 use Rattle.futures_buffered_unordered.proofs.StreamAnswersLemmas.{after_item, while_pending}
-use Rattle.futures_buffered_ordered.specs.Numbered.{PollsNumberedSet}
-use Rattle.futures_buffered_ordered.specs.OrderedEntries.{AddsBack, AddsFront, HandsBack, IsUnused, MayRefuse, PollsOrdered, QueueIsAtBound, SetYields}
+use Rattle.futures_buffered_ordered.specs.Numbered.{PollsNumberedSet, one_at}
+use Rattle.futures_buffered_ordered.specs.declared.numbered_polls.NumberedPolls.{Ghosts as NumberedPollsOf}
+use Rattle.futures_buffered_ordered.specs.OrderedEntries.{AddsBack, AddsFront, BesideTask, HandsBack, IsUnused, MayRefuse, Ordered, OrderedGives, PollsOrdered, QueueIsAtBound, SetYields, with_task}
 use Rattle.futures_buffered_ordered.specs.OrderedEntriesInvariant.{IsNumbered, Numbering}
 use Rattle.futures_buffered_ordered.proofs.OrderedEntriesInvariantLemmas.{held_by_entries, new_is_numbered}
 use Rattle.futures_buffered_ordered.proofs.OrderedEntriesLemmas.{as_many_of, comes_before, comes_behind, empty_of, fewer_of, gives_alone, no_more_of, one_entry_more, one_entry_more_before, rest_of, same_of, unused_none, value_of}
-use Rattle.futures_buffered_in_flight.specs.InFlight.{Flights, FutureOf, IsNewInFlight, flight_slots}
-use Rattle.futures_buffered_in_flight.specs.InFlightQueue.{CanPollQueue, HasGrown, MayRefuseNumber, NumberGives, OfSomeTask, PollsByNumber, RefusesNumbers, SameRoom, TakesNumber, has_tag, flight_count, flights_with}
-use Rattle.futures_buffered_in_flight.specs.InFlightOrdered.{AnswersInTurn, CanPollOrdered, ComesOfEach, EntersBack, EntersFront, FitsSlots, GivesInTurn, HasPlaces, IsCleared, KeepsInOrder, MayRefuseFuture, OrderedInFlight, OrderedIsFull, OrderedWaitsAt, PushesInTurn, PushesOrComesBack, RefusesFutures, flying_polls}
+use Rattle.futures_buffered_in_flight.specs.InFlight.{Flights, FlightsWaitAt, FutureOf, IsNewInFlight, TagGives, flight_slots}
+use Rattle.futures_buffered_in_flight.specs.InFlightQueue.{CanPollQueue, MayRefuseNumber, PollsQueued, PushesQueued, RefusesNumbers, has_tag, flights_with}
+use Rattle.futures_buffered_in_flight.specs.InFlightOrdered.{AnswersInTurn, CanPollOrdered, ComesOfEach, EntersBack, EntersFront, HasPlaces, IsCleared, KeepsInOrder, MayRefuseFuture, OrderedIsFull, OrderedWaitsAt, PushesInTurn, PushesOrComesBack, RefusesFutures}
+use Rattle.futures_buffered_in_flight.specs.declared.in_flight.Came.{Came}
 use Rattle.futures_buffered_in_flight.specs.declared.in_flight.Place.{Place}
-use Rattle.futures_buffered_in_flight.proofs.InFlightQueueLemmas.{number_counts, tagged_with, taken_again, taken_gives, taken_room}
+use Rattle.futures_buffered_in_flight.proofs.InFlightLemmas.{came_under, polled_tags}
+use Rattle.futures_buffered_in_flight.proofs.InFlightQueueLemmas.{HasGrown, added_gives, flight_count, kept_room, polled_room, tag_counts, tagged_with, tags_freed}
 
 -- free slots, no entry, and a place for an entry of each slot
 pub new_keeps : {F A : Type 0} (grows : Bool) (q : Numbering (Flights F ℕ) A) (set : Flights F ℕ) (n : ℕ) → 0 < n → IsNewInFlight n set → q.queue.set ≡ set → q.queue.entries ≡ [] → q.outgoing ≡ 0 → (grows ≡ false → (n ≤ q.queue.room) × (n < 2 ^ 62)) → KeepsInOrder grows q
@@ -43,12 +47,8 @@ new_keeps {F} grows q set n some new is none first places =
     }
 
 module _ {F A : Type 0} where
-  pub fits_now : (grows : Bool) (q : Numbering (Flights F ℕ) A) → KeepsInOrder grows q → FitsSlots grows q.queue
-  fits_now true q keeps = tt
-  fits_now false q keeps = (keeps.bounded refl).bound
-
   -- the futures and the entries of a queue were dropped
-  pub cleared : (grows : Bool) (old new : OrderedInFlight F A) → (grows ≡ false → HasPlaces old) → IsNewInFlight (flight_slots old.set) new.set → new.entries ≡ [] → new.room ≡ old.room → IsCleared grows old new
+  pub cleared : (grows : Bool) (old new : Ordered (Flights F ℕ) A) → (grows ≡ false → HasPlaces old) → IsNewInFlight (flight_slots old.set) new.set → new.entries ≡ [] → new.room ≡ old.room → IsCleared grows old new
   cleared true old new places set none room = (none, set)
   cleared false old new places set none room = record { new_set = set; no_entries = none; has_room = omega (arith, (places refl).fits, room) }
 
@@ -60,119 +60,149 @@ module _ {F A : Type 0} where
   may_refuse false q keeps fewer (inr (inr long)) = absurd (omega (arith, long, (keeps.bounded refl).small, fewer refl))
 
   -- such a queue refuses each push only if its set does
-  set_refuses : (grows : Bool) (q : OrderedInFlight F A) → (grows ≡ false → length q.entries < flight_slots q.set) → RefusesFutures grows q → RefusesNumbers grows q.set
+  set_refuses : (grows : Bool) (q : Ordered (Flights F ℕ) A) → (grows ≡ false → length q.entries < flight_slots q.set) → RefusesFutures grows q → RefusesNumbers grows q.set
   set_refuses true q fewer used = used
   set_refuses false q fewer full = absurd (omega (arith, full, fewer refl))
 
 module _ {F A : Type 0} (future : FutureOf F A) where
-  -- what an ordered queue asks of a poll of the futures
-  pub polls_set : (old new : Flights F ℕ) (answer : Poll (Option (ℕ × A))) (cx left : Context) → PollsByNumber future old answer new cx left → PollsNumberedSet (flying_polls future) flight_count flights_with HasGrown old answer new cx left
-  polls_set old new answer cx left p = record {
-    gave = p;
-    empty = (grind arith);
-    fewer = (grind arith);
-    numbers = p.numbers;
-    set = omega (arith, p.held.same_room);
-    covered = p.held.registered;
-    kept = p.held.kept;
-    pollable = p.held.again;
-  }
+  abbrev by_tag : Came A ℕ → ℕ × A
+  by_tag came = (came.tag, came.output)
 
-  -- one poll of the futures, told of the queue alone
+  -- how the futures in flight are polled
+  abbrev pub flying_polls : NumberedPollsOf (Flights F ℕ) PollFuture A
+  flying_polls = record { can_poll = CanPollQueue future; gives = PollsQueued future by_tag; needs = FlightsWaitAt }
+
+  -- what an ordered queue requires of a poll of the futures
+  pub polls_set : (old new : Flights F ℕ) (answer : Poll (Option (ℕ × A))) (cx left : Context) → PollsQueued future by_tag old answer new cx left → PollsNumberedSet flying_polls flight_count flights_with HasGrown old answer new cx left
+  polls_set old new (Ready None) cx left p =
+      let same = p.0.gave.1 in
+      record {
+        gave = p;
+        empty = p.0.gave.0;
+        fewer = omega (arith, ap (λ (s : Slots (Place ℕ)). held_count s) same);
+        numbers = λ i. omega (arith, ap (λ slots. tagged_with i slots) same);
+        set = omega (arith, (polled_room future old new (Ready None) p.0.gave).0);
+        covered = tt;
+        kept = p.0.kept;
+        pollable = p.1;
+      }
+  polls_set old new (Ready (Some out)) cx left p =
+      let came = p.0 in
+      let gave = p.2.gave in
+      record {
+        gave = p;
+        empty = tt;
+        fewer = gave.fewer;
+        numbers = λ i. omega (arith, ap (λ slots. tagged_with i slots) gave.freed, tags_freed i old.slots came.key.slot _ gave.was_held, ap (λ (o : ℕ × A). one_at i o.0) p.1);
+        set = omega (arith, (polled_room future old new (Ready (Some came)) gave).0);
+        covered = tt;
+        kept = p.2.kept;
+        pollable = p.3;
+      }
+  polls_set old new Pending cx left p =
+      let same = p.0.gave.1 in
+      record {
+        gave = p;
+        empty = tt;
+        fewer = omega (arith, ap (λ (s : Slots (Place ℕ)). held_count s) same);
+        numbers = λ i. omega (arith, ap (λ slots. tagged_with i slots) same);
+        set = omega (arith, (polled_room future old new Pending p.0.gave).0);
+        covered = p.0.registered;
+        kept = p.0.kept;
+        pollable = p.1;
+      }
+
+  -- one poll of the futures by some task, told of the queue alone
   abbrev Gave : Flights F ℕ → Poll (Option (ℕ × A)) → Flights F ℕ → Type 0
-  Gave = OfSomeTask (PollsByNumber future)
+  Gave old answer new = (cx : Context) × (left : Context) × PollsQueued future by_tag old answer new cx left
 
   -- what was given might be given, and what may still be given might be given before
-  gave : (old new : Flights F ℕ) (out : ℕ × A) → Gave old (Ready (Some out)) new → NumberGives future old out
-  gave old new out p = p.2.held.gave.0
+  gave : (old new : Flights F ℕ) (out : ℕ × A) → Gave old (Ready (Some out)) new → TagGives future old out
+  gave old new out p = subst (λ (o : ℕ × A). TagGives future old o) (sym p.2.1) (came_under future old new p.2.0 p.2.2.gave)
 
-  still : (old new : Flights F ℕ) (answer : Poll (Option (ℕ × A))) → Gave old answer new → (out : ℕ × A) → NumberGives future new out → NumberGives future old out
-  still old new answer p = p.2.held.narrows
+  still : (old new : Flights F ℕ) (answer : Poll (Option (ℕ × A))) → Gave old answer new → (out : ℕ × A) → TagGives future new out → TagGives future old out
+  still old new (Ready None) p = polled_tags future old new (Ready None) p.2.0.gave p.2.0.narrows
+  still old new (Ready (Some x)) p = polled_tags future old new (Ready (Some p.2.0)) p.2.2.gave p.2.2.narrows
+  still old new Pending p = polled_tags future old new Pending p.2.0.gave p.2.0.narrows
 
   -- no future may give an output with a number that no entry has
-  none_with : (old : Numbering (Flights F ℕ) A) (i : ℕ) → IsNumbered flights_with flight_count old → IsUnused i old.queue.entries → (y : A) → NumberGives future old.queue.set (i, y) → ⊥
-  none_with old i numbered unused y h = absurd (omega (arith, number_counts future old.queue.set (i, y) h, numbered.as_many i, unused_none i old.queue.entries unused))
+  none_with : (old : Numbering (Flights F ℕ) A) (i : ℕ) → IsNumbered flights_with flight_count old → IsUnused i old.queue.entries → (y : A) → TagGives future old.queue.set (i, y) → ⊥
+  none_with old i numbered unused y h = absurd (omega (arith, tag_counts i old.queue.set.slots h.0.slot h.0.push h.1, numbered.as_many i, unused_none i old.queue.entries unused))
 
-  module _ (grows : Bool) (old : Numbering (Flights F ℕ) A) (new : OrderedInFlight F A) (item : F) (numbered : IsNumbered flights_with flight_count old) where
-    pub enters_back : AddsBack (TakesNumber future grows) old.queue item new → EntersBack future grows old.queue item new
+  module _ (grows : Bool) (old : Numbering (Flights F ℕ) A) (new : Ordered (Flights F ℕ) A) (item : F) (numbered : IsNumbered flights_with flight_count old) where
+    -- a push at one end, of which it is known what it adds to what may come
+    enters : (adds : (Flights F ℕ → F → ℕ → Flights F ℕ → Type 0) → Ordered (Flights F ℕ) A → F → Ordered (Flights F ℕ) A → Type 0) (with_one : (A → Type 0) → Runs A → Runs A) → adds (PushesQueued future grows) old.queue item new → (i : ℕ) → PushesQueued future grows old.queue.set item i new.set
+        → length new.entries ≡ length old.queue.entries + 1 → Within (with_one (future.gives item) (ComesOfEach future old.queue)) (ComesOfEach future new) → PushesInTurn future grows adds with_one old.queue item new
+    enters adds with_one added i pushed one_more comes =
+        record { added = added; one_more = one_more; comes = comes; same_room = kept_room future old.queue.set new.set item i grows pushed.0; again = pushed.1 }
+
+    pub enters_back : AddsBack (PushesQueued future grows) old.queue item new → EntersBack future grows old.queue item new
     enters_back added =
-        record {
-          added = added;
-          one_more = one_entry_more (TakesNumber future grows) old.queue new item added;
-          comes = comes_behind (NumberGives future) future.gives (TakesNumber future grows) old.queue new item added (taken_gives future grows old.queue.set new.set item added.0 added.1.pushed) (none_with old added.0 numbered added.1.unused);
-          same_room = taken_room future grows old.queue.set new.set item added.0 added.1.pushed;
-          again = taken_again future grows old.queue.set new.set item added.0 added.1.pushed;
-        }
+        enters AddsBack _ added added.0 added.1.pushed (one_entry_more (PushesQueued future grows) old.queue new item added)
+        (comes_behind (TagGives future) future.gives (PushesQueued future grows) old.queue new item added (added_gives future old.queue.set new.set item added.0 grows added.1.pushed.0) (none_with old added.0 numbered added.1.unused))
 
-    pub enters_front : AddsFront (TakesNumber future grows) old.queue item new → EntersFront future grows old.queue item new
+    pub enters_front : AddsFront (PushesQueued future grows) old.queue item new → EntersFront future grows old.queue item new
     enters_front added =
-        record {
-          added = added;
-          one_more = one_entry_more_before (TakesNumber future grows) old.queue new item added;
-          comes = comes_before (NumberGives future) future.gives (TakesNumber future grows) old.queue new item added (taken_gives future grows old.queue.set new.set item added.0 added.1.pushed) (none_with old added.0 numbered added.1.unused);
-          same_room = taken_room future grows old.queue.set new.set item added.0 added.1.pushed;
-          again = taken_again future grows old.queue.set new.set item added.0 added.1.pushed;
-        }
+        enters AddsFront _ added added.0 added.1.pushed (one_entry_more_before (PushesQueued future grows) old.queue new item added)
+        (comes_before (TagGives future) future.gives (PushesQueued future grows) old.queue new item added (added_gives future old.queue.set new.set item added.0 grows added.1.pushed.0) (none_with old added.0 numbered added.1.unused))
 
   module _
       (grows : Bool)
-      (adds : (Flights F ℕ → F → ℕ → Flights F ℕ → Type 0) → OrderedInFlight F A → F → OrderedInFlight F A → Type 0)
+      (adds : (Flights F ℕ → F → ℕ → Flights F ℕ → Type 0) → Ordered (Flights F ℕ) A → F → Ordered (Flights F ℕ) A → Type 0)
       (with_one : (A → Type 0) → Runs A → Runs A)
       (old : Numbering (Flights F ℕ) A)
       (item : F)
       (keeps : KeepsInOrder grows old)
     where
-      abbrev Enters : OrderedInFlight F A → F → OrderedInFlight F A → Type 0
+      abbrev Enters : Ordered (Flights F ℕ) A → F → Ordered (Flights F ℕ) A → Type 0
       Enters = PushesInTurn future grows adds with_one
 
       -- a push into a queue that is not at its bound
-      pub pushed : (new : OrderedInFlight F A) (result : Result (Unit {0}) F) → (grows ≡ false → length old.queue.entries < flight_slots old.queue.set)
-          → (adds (TakesNumber future grows) old.queue item new → Enters old.queue item new)
-          → OnOk result (adds (TakesNumber future grows) old.queue item new)
+      pub pushed : (new : Ordered (Flights F ℕ) A) (result : Result (Unit {0}) F) → (grows ≡ false → length old.queue.entries < flight_slots old.queue.set)
+          → (adds (PushesQueued future grows) old.queue item new → Enters old.queue item new)
+          → OnOk result (adds (PushesQueued future grows) old.queue item new)
           → IfErr result (λ back. HandsBack (MayRefuseNumber grows) old.queue item back new)
           → (QueueIsAtBound (RefusesNumbers grows) old.queue → IsErr result) → CanPollQueue future new.set
           → PushesOrComesBack future grows Enters old.queue item result new
-      pushed new (Ok u) fewer enters added back large again =
-          record { went_in = enters added; back = tt; room = λ e. absurd (false≢true e); full = λ refuses. large (inr (set_refuses grows old.queue fewer refuses)); again = again }
-      pushed new (Err b) fewer enters added back large again =
+      pushed new (Ok u) fewer entered added back large again =
+          record { went_in = entered added; back = tt; room = λ e. absurd (false≢true e); full = λ refuses. large (inr (set_refuses grows old.queue fewer refuses)); again = again }
+      pushed new (Err b) fewer entered added back large again =
           record { went_in = tt; back = (back.same, back.stays); room = λ _. may_refuse grows old keeps fewer back.may_refuse; full = λ _. refl; again = again }
 
   -- a push into a bounded queue that is full
-  pub refused : (grows : Bool) (pushes : OrderedInFlight F A → F → OrderedInFlight F A → Type 0) (q : OrderedInFlight F A) (item : F) → grows ≡ false → OrderedIsFull q → CanPollOrdered future q → PushesOrComesBack future grows pushes q item (Err item) q
+  pub refused : (grows : Bool) (pushes : Ordered (Flights F ℕ) A → F → Ordered (Flights F ℕ) A → Type 0) (q : Ordered (Flights F ℕ) A) (item : F) → grows ≡ false → OrderedIsFull q → CanPollOrdered future q → PushesOrComesBack future grows pushes q item (Err item) q
   refused true pushes q item bounded full can = absurd (true≢false bounded)
   refused false pushes q item bounded full can = record { went_in = tt; back = (refl, refl); room = λ _. full; full = λ _. refl; again = can }
 
-  -- one poll, told of the queue alone
-  alone : {keeps : Flights F ℕ → Flights F ℕ → Type 0} (old new : OrderedInFlight F A) (answer : Poll (Option A)) (cx after : Context) → PollsOrdered flight_count keeps (flying_polls future) old answer new cx after → GivesInTurn future old answer new
-  alone old new answer cx after poll = gives_alone (PollsByNumber future) Gave (λ a b given before later h. (before, later, h)) flight_count old new answer cx after poll.gave
+  -- the polls of the futures, told of the queue alone
+  abbrev GivesInTurn : Ordered (Flights F ℕ) A → Poll (Option A) → Ordered (Flights F ℕ) A → Type 0
+  GivesInTurn = OrderedGives Gave flight_count
 
-  pub gives_in_turn : {grows : Bool} (old new : OrderedInFlight F A) (answer : Poll (Option A)) (cx after : Context) → AnswersInTurn future grows old answer new cx after → GivesInTurn future old answer new
-  gives_in_turn old new answer cx after poll = alone old new answer cx after poll.polls
+  alone : (old new : Ordered (Flights F ℕ) A) (answer : Poll (Option A)) (cx after : Context) → OrderedGives (BesideTask (PollsQueued future by_tag)) (λ set. flight_count set.0) (with_task old cx) answer (with_task new after) → GivesInTurn old answer new
+  alone old new answer cx after gives = gives_alone (PollsQueued future by_tag) Gave (λ a b given before later h. (before, later, h)) flight_count old new answer cx after gives
 
-  -- the last poll of the futures says who is woken
-  wakes : {keeps : Flights F ℕ → Flights F ℕ → Type 0} (old new : OrderedInFlight F A) (answer : Poll (Option A)) (cx after : Context) → PollsOrdered flight_count keeps (flying_polls future) old answer new cx after → OnPending answer ((new.set.waiting ≡ []) ⊎ IsWoken after)
-  wakes old new (Ready o) cx after poll = tt
-  wakes old new Pending cx after poll = poll.gave.last_step.1.held.started
+  -- the last poll of the futures says whether the task is woken
+  wakes : (old new : Ordered (Flights F ℕ) A) (answer : Poll (Option A)) (cx after : Context) → OrderedGives (BesideTask (PollsQueued future by_tag)) (λ set. flight_count set.0) (with_task old cx) answer (with_task new after) → OnPending answer ((new.set.waiting ≡ []) ⊎ IsWoken after)
+  wakes old new (Ready o) cx after gives = tt
+  wakes old new Pending cx after gives = gives.last_step.1.0.started
 
   -- polls keep the number of slots
-  row_room : (outs : List (ℕ × A)) (old before : OrderedInFlight F A) → FoldsTo (SetYields Gave) old outs before → SameRoom old.set before.set
-  row_room [] old before h = ap (λ (q : OrderedInFlight F A). flight_slots q.set) (sym h)
-  row_room (out ∷ outs) old before h = row_room outs h.0 before h.2 ∙ h.1.gave.2.held.same_room
+  row_room : (outs : List (ℕ × A)) (old before : Ordered (Flights F ℕ) A) → FoldsTo (SetYields Gave) old outs before → flight_slots before.set ≡ flight_slots old.set
+  row_room [] old before h = ap (λ (q : Ordered (Flights F ℕ) A). flight_slots q.set) (sym h)
+  row_room (out ∷ outs) old before h =
+      let gave = h.1.gave in
+      row_room outs h.0 before h.2 ∙ (polled_room future old.set h.0.set (Ready (Some gave.2.0)) gave.2.2.gave).0
 
-  poll_room : (old new : OrderedInFlight F A) (answer : Poll (Option A)) → GivesInTurn future old answer new → SameRoom old.set new.set
-  poll_room old new (Ready None) h = ap (λ (q : OrderedInFlight F A). flight_slots q.set) h.last_step.1 ∙ row_room h.yielded old h.before h.row
+  poll_room : (old new : Ordered (Flights F ℕ) A) (answer : Poll (Option A)) → GivesInTurn old answer new → flight_slots new.set ≡ flight_slots old.set
+  poll_room old new (Ready None) h = ap (λ (q : Ordered (Flights F ℕ) A). flight_slots q.set) h.last_step.1 ∙ row_room h.yielded old h.before h.row
   poll_room old new (Ready (Some x)) h = ap (λ (s : Flights F ℕ). flight_slots s) h.last_step.1 ∙ row_room h.yielded old h.before h.row
-  poll_room old new Pending h = h.last_step.1.2.held.same_room ∙ row_room h.yielded old h.before h.row
+  poll_room old new Pending h = (polled_room future h.before.set new.set Pending h.last_step.1.2.0.gave).0 ∙ row_room h.yielded old h.before h.row
 
-  fits_still : (grows : Bool) (old new : OrderedInFlight F A) → (grows ≡ false → HasPlaces old) → length new.entries ≤ length old.entries → SameRoom old.set new.set → FitsSlots grows new
-  fits_still true old new places fewer same = tt
-  fits_still false old new places fewer same = omega (arith, (places refl).bound, fewer, same)
+  module _ (grows : Bool) (old new : Numbering (Flights F ℕ) A) (answer : Poll (Option A)) (keeps : KeepsInOrder grows old) (cx after : Context) (poll : PollsOrdered flight_count HasGrown flying_polls old.queue answer new.queue cx after) where
+    polled : GivesInTurn old.queue answer new.queue
+    polled = alone old.queue new.queue answer cx after poll.gave
 
-  module _ (grows : Bool) (old new : Numbering (Flights F ℕ) A) (answer : Poll (Option A)) (keeps : KeepsInOrder grows old) (cx after : Context) (poll : PollsOrdered flight_count HasGrown (flying_polls future) old.queue answer new.queue cx after) where
-    polled : GivesInTurn future old.queue answer new.queue
-    polled = alone old.queue new.queue answer cx after poll
-
-    same : SameRoom old.queue.set new.queue.set
+    same : flight_slots new.queue.set ≡ flight_slots old.queue.set
     same = poll_room old.queue new.queue answer polled
 
     pub polled_keeps : IsNumbered flights_with flight_count new → KeepsInOrder grows new
@@ -186,34 +216,33 @@ module _ {F A : Type 0} (future : FutureOf F A) where
               record { bound = omega (arith, same, fewer, places.bound); fits = omega (arith, same, poll.queue.room, places.fits); small = omega (arith, same, places.small) };
         }
 
-    pub answers : AnswersInTurn future grows old.queue answer new.queue cx after
-    answers =
+    pub answers : IsNumbered flights_with flight_count new → AnswersInTurn future grows old.queue answer new.queue cx after
+    answers numbered =
         record {
-          polls = record {
-            gave = poll.gave;
-            queue = record { set = same; room = poll.queue.room; holds = poll.queue.holds; covered = poll.queue.covered; kept = poll.queue.kept; pollable = poll.queue.pollable };
-          };
-          started = wakes old.queue new.queue answer cx after poll;
+          gave = poll.gave;
           empty = empty_of Gave flight_count old.queue new.queue answer polled;
           fewer = fewer_of Gave flight_count old.queue new.queue answer polled;
           same_count = as_many_of Gave flight_count old.queue new.queue answer polled;
-          same_room = same;
-          some = omega (arith, same, keeps.some);
-          bound = fits_still grows old.queue new.queue keeps.bounded (no_more_of Gave flight_count old.queue new.queue answer polled) same;
+          holds = poll.queue.holds;
+          same_room = (same, poll.queue.room);
+          bound = λ b. ((polled_keeps numbered).bounded b).bound;
+          registered = poll.queue.covered;
+          started = wakes old.queue new.queue answer cx after poll.gave;
+          kept = poll.queue.kept;
+          again = poll.queue.pollable;
         }
 
   -- a poll is one of a stream
-  pub answers_in_turn : {grows : Bool} (old new : OrderedInFlight F A) (answer : Poll (Option A)) (cx after : Context) → AnswersInTurn future grows old answer new cx after
+  pub answers_in_turn : {grows : Bool} (old new : Ordered (Flights F ℕ) A) (answer : Poll (Option A)) (cx after : Context) → AnswersInTurn future grows old answer new cx after
       → StreamAnswers (stream_of (CanPollOrdered future) OrderedWaitsAt (ComesOfEach future)) old answer new cx after
   answers_in_turn old new answer cx after poll =
-      let given = gives_in_turn old new answer cx after poll in
-      let queue = poll.polls.queue in
+      let given = alone old new answer cx after poll.gave in
       record {
-        value = value_of Gave (NumberGives future) still gave flight_count old new answer given;
-        rest = rest_of Gave (NumberGives future) still gave flight_count old new answer given;
-        same = same_of Gave (NumberGives future) still gave flight_count old new answer given;
-        goes = after_item answer queue.pollable;
-        again = while_pending answer queue.pollable;
-        registered = queue.covered;
-        kept = queue.kept;
+        value = value_of Gave (TagGives future) still gave flight_count old new answer given;
+        rest = rest_of Gave (TagGives future) still gave flight_count old new answer given;
+        same = same_of Gave (TagGives future) still gave flight_count old new answer given;
+        goes = after_item answer poll.again;
+        again = while_pending answer poll.again;
+        registered = poll.registered;
+        kept = poll.kept;
       }

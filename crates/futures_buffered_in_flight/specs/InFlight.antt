@@ -1,6 +1,6 @@
 -- What a contract sees of a set of futures in flight. A clause describes the futures by the ghost members of their
 -- type: `F.Future`.
-use Rattle.std.specs.Prelude.{◌≡◌, ◌+◌, ◌-◌, ◌^◌, ◌<◌, ◌≤◌, ◌⊎◌, min, ℕ, Bool, false, true, List, [], ◌∷◌, length, slice_get, Option, Some, None}
+use Rattle.std.specs.Prelude.{◌≡◌, ◌+◌, ◌-◌, ◌^◌, ◌<◌, ◌≤◌, ◌⊎◌, min, ℕ, Bool, false, true, List, [], length, slice_get, Option, Some, None}
 use Rattle.std.specs.Prelude.{IfSome, IsSomeAnd, Result, IfOk, IfErr, IsErr}
 use Rattle.std.specs.List.{AllByRecursion}
 use Rattle.futures.specs.declared.task.Poll.{Poll}
@@ -9,10 +9,10 @@ use Rattle.futures.specs.declared.task.context.Context.{Context}
 pub use Rattle.futures.specs.declared.future.Future.{Ghosts as FutureOf}
 use Rattle.futures.specs.declared.stream.futures_unordered.FuturesUnordered.{FuturesUnordered}
 use Rattle.futures.specs.Poll.{OnPending}
-use Rattle.futures.specs.Queued.{AllPollable, AnyGives, Gathers, set_len, set_places}
+use Rattle.futures.specs.Queued.{AllPollable, AnyGives, AnyMay, Gathers, set_len, set_places}
 use Rattle.futures.specs.Runs.{Runs}
 use Rattle.futures.specs.Task.{Covers, Keeps}
-use Rattle.futures_buffered_core.specs.SlotMap.{Slots, value_in, held_count, with_slot_freed, no_slots, slot_count}
+use Rattle.futures_buffered_core.specs.SlotMap.{Slots, value_in, held_count, with_slot_freed, no_slots}
 use Rattle.futures_buffered_core.specs.SlotMap.{GrowsByOne, Inserts}
 use Rattle.futures_buffered_unordered.specs.FuturesUnorderedBounded.{IsWoken}
 use Rattle.futures_buffered_in_flight.specs.declared.run.Run.{Run}
@@ -42,17 +42,13 @@ run_count (Some set) = set_len set
 
 -- how many slots there are
 abbrev pub flight_slots : {F T : Type 0} → Flights F T → ℕ
-flight_slots s = slot_count s.slots
+flight_slots s = length s.slots.places
 
 -- how many futures occupy room: the futures held, and the cancelled futures that have not ended
 abbrev pub room_taken : {F T : Type 0} → Flights F T → ℕ
 room_taken s = held_count s.slots + s.cancelled
 
--- as many futures run or wait as occupy room
-abbrev pub HasEach : {F T : Type 0} → Flights F T → Type 0
-HasEach s = run_count s.running + length s.waiting ≡ room_taken s
-
--- what comes has the key of the run, and only an output that the future of the run may give
+-- what comes of a run has its key, and only an output that its future may give
 abbrev pub GivesWithKey : {F A : Type 0} → (F → A → Type 0) → Run F → Key × Option A → Type 0
 GivesWithKey gives run came = (came.0 ≡ run.key) × IfSome came.1 (gives run.future)
 
@@ -67,10 +63,6 @@ IsUsedUp s = 2 ^ 64 ≤ s.next + 1
 -- as many futures occupy room as there are slots, or 2 ^ 64 - 1 pushes were made
 abbrev pub HasNoRoom : {F T : Type 0} → Flights F T → Type 0
 HasNoRoom s = (flight_slots s ≤ room_taken s) ⊎ IsUsedUp s
-
--- a push that is refused changes nothing, and there was no room
-abbrev pub RefusesInFlight : {F T : Type 0} → Flights F T → Flights F T → Type 0
-RefusesInFlight old new = HasNoRoom old × (new ≡ old)
 
 -- each push is refused, also if no allocation fails: there is no room in a set that does not grow, or 2 ^ 64 - 1 pushes
 -- were made; `grows` says whether the set grows
@@ -98,49 +90,50 @@ IsNewInFlight n s = (s.slots ≡ no_slots n) × (s.running ≡ None) × (s.waiti
 abbrev pub FlightsWaitAt : {F T : Type 0} → Flights F T → ℕ → Type 0
 FlightsWaitAt s source = IsSomeAnd s.running (λ set. source ≡ set.tasks.source.id)
 
+module _ {F T : Type 0} where
+  -- The future of this key is cancelled: its slot is free, no output of it comes, and it occupies room until it has
+  -- ended. No other future changes.
+  pub record Cancels (old : Flights F T) (key : Key) (tag : T) (new : Flights F T) : Type 0 where
+    pub was_held : IsHeld old key tag
+    pub freed : new.slots ≡ with_slot_freed old.slots key.slot
+    pub fewer : held_count new.slots + 1 ≡ held_count old.slots
+    pub room : new.cancelled ≡ old.cancelled + 1
+    pub others : (new.running ≡ old.running) × (new.waiting ≡ old.waiting)
+    pub keys : new.next ≡ old.next
+
+  -- what a cancel returns: the tag of the future of this key, or `None`, which changes nothing, if no future of this
+  -- key is held
+  abbrev pub CancelsOrNone : Flights F T → Key → Option T → Flights F T → Type 0
+  CancelsOrNone old key None new = (new ≡ old) × ((tag : T) → IsHeld old key tag → ⊥)
+  CancelsOrNone old key (Some tag) new = Cancels old key tag new
+
 module _ {F A : Type 0} (future : FutureOf F A) where
   -- what a future that waits may give, with its key: nothing under the last number, with which no future starts
   abbrev pub WaitGives : Waits F → Key × Option A → Type 0
   WaitGives w came = (came.0 ≡ w.key) × (w.key.push + 1 < 2 ^ 64) × IfSome came.1 (future.gives w.future)
 
-  -- one of the futures that wait may give this
-  abbrev pub AnyWaitGives : List (Waits F) → Key × Option A → Type 0
-  AnyWaitGives [] came = ⊥
-  AnyWaitGives (w ∷ ws) came = WaitGives w came ⊎ AnyWaitGives ws came
-
-  -- one of the futures in the set of `futures` may give this
-  abbrev pub AnyRunGives : Option (FuturesUnordered (Run F)) → Key × Option A → Type 0
-  AnyRunGives running = AnyGives (GivesWithKey future.gives) (runs_in running)
-
-  -- each future in the set of `futures` may be polled
-  abbrev pub CanPollRuns : Option (FuturesUnordered (Run F)) → Type 0
-  CanPollRuns running = AllPollable (λ (run : Run F). future.can_poll run.future) (runs_in running)
-
-  -- each future that waits may be polled
-  abbrev pub CanPollWaiting : List (Waits F) → Type 0
-  CanPollWaiting = AllByRecursion (λ (w : Waits F). future.can_poll w.future)
-
 module _ {F A T : Type 0} (future : FutureOf F A) where
   -- a future that runs or waits may give this, with its key
   abbrev pub MayCome : Flights F T → Key × Option A → Type 0
-  MayCome s came = AnyRunGives future s.running came ⊎ AnyWaitGives future s.waiting came
-
-  -- the future of this key may give x
-  abbrev pub KeyGives : Flights F T → Key → A → Type 0
-  KeyGives s key x = MayCome s (key, Some x)
+  MayCome s came = AnyGives (GivesWithKey future.gives) (runs_in s.running) came
+      ⊎ AnyMay (WaitGives future) s.waiting came
 
   -- the future of this slot may give x
   abbrev pub SlotGives : Flights F T → ℕ → A → Type 0
   SlotGives s slot x = (place : Place T) × (value_in s.slots slot ≡ Some place)
-      × KeyGives s (record { slot = slot; push = place.push }) x
+      × MayCome s (record { slot = slot; push = place.push }, Some x)
+
+  -- a future that is held under this tag may give this output
+  abbrev pub TagGives : Flights F T → T × A → Type 0
+  TagGives s out = (key : Key) × IsHeld s key out.0 × MayCome s (key, Some out.1)
 
   -- the future of some slot may give x
   abbrev pub AnySlotGives : Flights F T → A → Type 0
-  AnySlotGives s x = (slot : ℕ) × SlotGives s slot x
+  AnySlotGives s x = (tag : T) × TagGives s (tag, x)
 
   -- there are as many slots as items, each with a future, and slot k may give only what item k may give
   pub record FliesInOrder (items : List F) (set : Flights F T) : Type 0 where
-    pub as_many : slot_count set.slots ≡ length items
+    pub as_many : flight_slots set ≡ length items
     pub all_wait : held_count set.slots ≡ length items
     -- what slot k may give, item k may give
     pub own : (k : ℕ) (item : F) (x : A) → slice_get items k ≡ Some item
@@ -156,8 +149,8 @@ module _ {F A T : Type 0} (future : FutureOf F A) where
 
   -- each future may be polled, and what may come has the number of a push before the next
   pub record CanPollAll (s : Flights F T) : Type 0 where
-    pub running : CanPollRuns future s.running
-    pub waiting : CanPollWaiting future s.waiting
+    pub running : AllPollable (λ (run : Run F). future.can_poll run.future) (runs_in s.running)
+    pub waiting : AllByRecursion (λ (w : Waits F). future.can_poll w.future) s.waiting
     pub older : (came : Key × Option A) → MayCome s came → came.0.push < s.next
 
   -- a future was added to a free slot, under this tag and this key; it runs, or waits for memory
@@ -171,7 +164,7 @@ module _ {F A T : Type 0} (future : FutureOf F A) where
     -- as many cancelled futures have not ended as before
     pub room : new.cancelled ≡ old.cancelled
     -- under this key comes only what the future may give
-    pub own : (x : A) → KeyGives new key x → future.gives pushed x
+    pub own : (x : A) → MayCome new (key, Some x) → future.gives pushed x
     -- no other future gives what it could not give before
     pub others : (came : Key × Option A) → MayCome new came
         → MayCome old came ⊎ ((came.0 ≡ key) × IfSome came.1 (future.gives pushed))
@@ -202,7 +195,7 @@ module _ {F A T : Type 0} (future : FutureOf F A) where
   -- an output that the future of this key may give: the future was held under this tag, and its slot is free now
   pub record ComesByKey (old : Flights F T) (came : Came A T) (new : Flights F T) : Type 0 where
     pub was_held : IsHeld old came.key came.tag
-    pub gave : KeyGives old came.key came.output
+    pub gave : MayCome old (came.key, Some came.output)
     pub freed : new.slots ≡ with_slot_freed old.slots came.key.slot
     pub fewer : held_count new.slots + 1 ≡ held_count old.slots
 
@@ -225,7 +218,8 @@ module _ {F A T : Type 0} (future : FutureOf F A) where
     pub keys : new.next ≡ old.next
     pub room : new.cancelled ≤ old.cancelled
     -- after a pending poll as many futures run or wait as occupy room, and none is cancelled, or the task is woken
-    pub stays : OnPending answer (HasEach new ⊎ IsWoken left)
+    pub stays : OnPending answer ((run_count new.running + length new.waiting ≡ held_count new.slots + new.cancelled)
+        ⊎ IsWoken left)
     pub ended : OnPending answer ((new.cancelled ≡ 0) ⊎ IsWoken left)
     -- no future waits for memory, or the task is woken
     pub started : (new.waiting ≡ []) ⊎ IsWoken left
@@ -236,30 +230,6 @@ module _ {F A T : Type 0} (future : FutureOf F A) where
     -- the set may be polled
     pub again : CanPollAll new
 
-  -- What polling until the next output, or `None`, makes of the set.
-  pub record CameInFlight (old : Flights F T) (came : Option (Came A T)) (new : Flights F T) : Type 0 where
-    -- an output with its key, or `None` if and only if no future is held
-    pub gave : GivesByKey old (Ready came) new
-    -- no future gives what it could not give before
-    pub narrows : FlightsGiveNoMore old new
-    -- the number of the next push does not change, and no more cancelled futures are left than before
-    pub keys : new.next ≡ old.next
-    pub room : new.cancelled ≤ old.cancelled
-    -- the set may be polled
-    pub again : CanPollAll new
-
-  -- The future of this key is cancelled: its slot is free, no output of it comes, and it occupies room until it has
-  -- ended. No other future changes.
-  pub record Cancels (old : Flights F T) (key : Key) (tag : T) (new : Flights F T) : Type 0 where
-    pub was_held : IsHeld old key tag
-    pub freed : new.slots ≡ with_slot_freed old.slots key.slot
-    pub fewer : held_count new.slots + 1 ≡ held_count old.slots
-    pub room : new.cancelled ≡ old.cancelled + 1
-    pub others : (new.running ≡ old.running) × (new.waiting ≡ old.waiting)
-    pub keys : new.next ≡ old.next
-
-  -- what a cancel returns: the tag of the future of this key, or `None`, which changes nothing, if no future of this
-  -- key is held
-  abbrev pub CancelsOrNone : Flights F T → Key → Option T → Flights F T → Type 0
-  CancelsOrNone old key None new = (new ≡ old) × ((tag : T) → IsHeld old key tag → ⊥)
-  CancelsOrNone old key (Some tag) new = Cancels old key tag new
+  -- polling until the next output, or `None`, makes of the set what one poll by some task does
+  abbrev pub CameInFlight : Flights F T → Option (Came A T) → Flights F T → Type 0
+  CameInFlight old came new = (cx : Context) × (left : Context) × PollsInFlight old (Ready came) new cx left

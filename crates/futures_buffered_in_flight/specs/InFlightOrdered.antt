@@ -6,103 +6,84 @@ use Rattle.std.specs.Prelude.{Result, IfErr, IsErr, List, OnOk, max}
 use Rattle.std.specs.List.{FoldsTo}
 use Rattle.futures.specs.Poll.{IfReady, OnPending}
 use Rattle.futures.specs.Runs.{Runs, After, Within, Leads, Chains, Ends}
+use Rattle.futures.specs.Task.{Covers, Keeps}
 use Rattle.futures.specs.declared.task.Poll.{Poll}
 use Rattle.futures.specs.declared.task.context.Context.{Context}
+use Rattle.futures_buffered_core.specs.SlotMap.{held_count}
 use Rattle.futures_buffered_unordered.specs.FuturesUnorderedBounded.{IsWoken}
-use Rattle.futures_buffered_unordered.specs.declared.poll_one.PollFuture.{PollFuture}
-use Rattle.futures_buffered_ordered.specs.OrderedEntries.{Ordered, AddsBack, AddsFront, ComesInOrder, IsNewQueue, MayRefuse}
-use Rattle.futures_buffered_ordered.specs.OrderedEntries.{OrderedGives, PollsOrdered}
+use Rattle.futures_buffered_ordered.specs.OrderedEntries.{Ordered, AddsBack, AddsFront, BesideTask, ComesInOrder, IsNewQueue}
+use Rattle.futures_buffered_ordered.specs.OrderedEntries.{MayRefuse, OrderedGives, with_task}
 use Rattle.futures_buffered_ordered.specs.OrderedEntriesInvariant.{IsNumbered, Numbering}
-use Rattle.futures_buffered_ordered.specs.declared.numbered_polls.NumberedPolls.{Ghosts as NumberedPollsOf}
 use Rattle.futures_buffered_in_flight.specs.InFlight.{Flights, FlightsWaitAt, FutureOf, HasNoRoom, IsNewInFlight, IsUsedUp}
-use Rattle.futures_buffered_in_flight.specs.InFlight.{flight_slots}
-use Rattle.futures_buffered_in_flight.specs.InFlightQueue.{CanPollQueue, KeepsRoom, NumberGives, OfSomeTask, PollsByNumber}
-use Rattle.futures_buffered_in_flight.specs.InFlightQueue.{SameRoom, TakesNumber, flight_count, flights_with}
-
--- the futures in flight, each with a number; the entries from the front to the back, each entry in progress with the
--- number of its future; and how many entries had a place when the queue was made
-abbrev pub OrderedInFlight : Type 0 → Type 0 → Type 0
-OrderedInFlight F A = Ordered (Flights F ℕ) A
+use Rattle.futures_buffered_in_flight.specs.InFlight.{TagGives, flight_slots}
+use Rattle.futures_buffered_in_flight.specs.InFlightQueue.{CanPollQueue, KeepsRoom, PollsQueued, PushesQueued, flights_with}
 
 -- how many slots there are: in a bounded queue, how many entries there can be
-abbrev pub ordered_room : {F A : Type 0} → OrderedInFlight F A → ℕ
+abbrev pub ordered_room : {F A : Type 0} → Ordered (Flights F ℕ) A → ℕ
 ordered_room q = flight_slots q.set
 
 -- there are as many entries as slots
-abbrev pub OrderedIsFull : {F A : Type 0} → OrderedInFlight F A → Type 0
+abbrev pub OrderedIsFull : {F A : Type 0} → Ordered (Flights F ℕ) A → Type 0
 OrderedIsFull q = flight_slots q.set ≤ length q.entries
 
--- there are no more entries than slots, unless the queue grows
-abbrev pub FitsSlots : {F A : Type 0} → Bool → OrderedInFlight F A → Type 0
-FitsSlots false q = length q.entries ≤ flight_slots q.set
-FitsSlots true q = Unit {0}
-
 -- there are n slots, no future and no entry, and a place for n entries at least
-abbrev pub IsNewInOrder : {F A : Type 0} → ℕ → OrderedInFlight F A → Type 0
+abbrev pub IsNewInOrder : {F A : Type 0} → ℕ → Ordered (Flights F ℕ) A → Type 0
 IsNewInOrder n = IsNewQueue (IsNewInFlight n) n
 
 -- there are as many slots as before, no future and no entry; and a place for an entry of each slot, unless the queue
 -- grows
-abbrev pub IsCleared : {F A : Type 0} → Bool → OrderedInFlight F A → OrderedInFlight F A → Type 0
+abbrev pub IsCleared : {F A : Type 0} → Bool → Ordered (Flights F ℕ) A → Ordered (Flights F ℕ) A → Type 0
 IsCleared false old new = IsNewInOrder (flight_slots old.set) new
 IsCleared true old new = (new.entries ≡ []) × IsNewInFlight (flight_slots old.set) new.set
 
 -- the place at which a pending poll waits
-abbrev pub OrderedWaitsAt : {F A : Type 0} → OrderedInFlight F A → ℕ → Type 0
+abbrev pub OrderedWaitsAt : {F A : Type 0} → Ordered (Flights F ℕ) A → ℕ → Type 0
 OrderedWaitsAt q = FlightsWaitAt q.set
 
 -- There are at most as many entries as slots, a place for as many, and fewer than 2 ^ 62 slots.
-pub record HasPlaces {F A : Type 0} (q : OrderedInFlight F A) : Type 0 where
+pub record HasPlaces {F A : Type 0} (q : Ordered (Flights F ℕ) A) : Type 0 where
   pub bound : length q.entries ≤ flight_slots q.set
   pub fits : flight_slots q.set ≤ q.room
   pub small : flight_slots q.set < 2 ^ 62
 
 -- How the queue keeps itself: the numbers are in order, there is a slot, and a bounded queue has its places.
 pub record KeepsInOrder {F A : Type 0} (grows : Bool) (q : Numbering (Flights F ℕ) A) : Type 0 where
-  pub numbered : IsNumbered flights_with flight_count q
+  pub numbered : IsNumbered flights_with (λ set. held_count set.slots) q
   pub some : 0 < flight_slots q.queue.set
   pub bounded : grows ≡ false → HasPlaces q.queue
 
--- what may come from `runs`, and then one output of which `gives` holds
-abbrev pub ComesLast : {A : Type 0} → (A → Type 0) → Runs A → Runs A
-ComesLast gives runs = Chains runs (Leads gives Ends)
-
 -- a push may be refused: a bounded queue is full; in a queue that grows the entry might have needed an allocation, the
 -- set had no room, or there were as many entries as there can be
-abbrev pub MayRefuseFuture : {F A : Type 0} → Bool → OrderedInFlight F A → Type 0
+abbrev pub MayRefuseFuture : {F A : Type 0} → Bool → Ordered (Flights F ℕ) A → Type 0
 MayRefuseFuture false q = OrderedIsFull q
 MayRefuseFuture true q = MayRefuse HasNoRoom q
 
 -- each push is refused: a bounded queue is full; into a queue that grows 2 ^ 64 - 1 pushes were made
-abbrev pub RefusesFutures : {F A : Type 0} → Bool → OrderedInFlight F A → Type 0
+abbrev pub RefusesFutures : {F A : Type 0} → Bool → Ordered (Flights F ℕ) A → Type 0
 RefusesFutures false q = OrderedIsFull q
 RefusesFutures true q = IsUsedUp q.set
 
--- a push that is refused changes nothing
-abbrev pub RefusesInOrder : {F A : Type 0} → Bool → OrderedInFlight F A → OrderedInFlight F A → Type 0
-RefusesInOrder grows old new = MayRefuseFuture grows old × (new ≡ old)
-
 module _ {F A : Type 0} (future : FutureOf F A) where
   -- each future in progress may be polled, and none is cancelled
-  abbrev pub CanPollOrdered : OrderedInFlight F A → Type 0
+  abbrev pub CanPollOrdered : Ordered (Flights F ℕ) A → Type 0
   CanPollOrdered q = CanPollQueue future q.set
 
   -- what may come: an output of each entry, of its own future, from the front to the back, and then `None`
-  abbrev pub ComesOfEach : OrderedInFlight F A → Runs A
-  ComesOfEach = ComesInOrder (NumberGives future)
+  abbrev pub ComesOfEach : Ordered (Flights F ℕ) A → Runs A
+  ComesOfEach = ComesInOrder (TagGives future)
 
   -- One push, from `old` to `new`. `adds` says at which end the entry of the future is, and `with_one` what may come if
   -- an output of one future more does.
   pub record PushesInTurn
       (grows : Bool)
-      (adds : (Flights F ℕ → F → ℕ → Flights F ℕ → Type 0) → OrderedInFlight F A → F → OrderedInFlight F A → Type 0)
+      (adds : (Flights F ℕ → F → ℕ → Flights F ℕ → Type 0) → Ordered (Flights F ℕ) A → F → Ordered (Flights F ℕ) A → Type 0)
       (with_one : (A → Type 0) → Runs A → Runs A)
-      (old : OrderedInFlight F A)
+      (old : Ordered (Flights F ℕ) A)
       (pushed : F)
-      (new : OrderedInFlight F A)
+      (new : Ordered (Flights F ℕ) A)
       : Type 0 where
     -- the future is added, and its entry at this end
-    pub added : adds (TakesNumber future grows) old pushed new
+    pub added : adds (PushesQueued future grows) old pushed new
     pub one_more : length new.entries ≡ length old.entries + 1
     -- an output of the future may come there, and otherwise what might come before
     pub comes : Within (with_one (future.gives pushed) (ComesOfEach old)) (ComesOfEach new)
@@ -112,43 +93,28 @@ module _ {F A : Type 0} (future : FutureOf F A) where
     pub again : CanPollOrdered new
 
   -- the future was added after all others: its output comes last
-  abbrev pub EntersBack : Bool → OrderedInFlight F A → F → OrderedInFlight F A → Type 0
-  EntersBack grows = PushesInTurn grows AddsBack ComesLast
+  abbrev pub EntersBack : Bool → Ordered (Flights F ℕ) A → F → Ordered (Flights F ℕ) A → Type 0
+  EntersBack grows = PushesInTurn grows AddsBack (λ gives runs. Chains runs (Leads gives Ends))
 
   -- the future was added before all others: its output comes first
-  abbrev pub EntersFront : Bool → OrderedInFlight F A → F → OrderedInFlight F A → Type 0
+  abbrev pub EntersFront : Bool → Ordered (Flights F ℕ) A → F → Ordered (Flights F ℕ) A → Type 0
   EntersFront grows = PushesInTurn grows AddsFront Leads
 
-  -- such a push into a bounded queue
-  abbrev pub PushesBack : OrderedInFlight F A → F → OrderedInFlight F A → Type 0
-  PushesBack = EntersBack false
-
-  abbrev pub PushesFront : OrderedInFlight F A → F → OrderedInFlight F A → Type 0
-  PushesFront = EntersFront false
-
   -- these items were pushed one after another into a new queue with a slot for each, and with one slot at least
-  pub record HoldsInTurn (grows : Bool) (items : List F) (q : OrderedInFlight F A) : Type 0 where
-    pub start : OrderedInFlight F A
+  pub record HoldsInTurn (grows : Bool) (items : List F) (q : Ordered (Flights F ℕ) A) : Type 0 where
+    pub start : Ordered (Flights F ℕ) A
     pub is_new : IsNewInOrder (max 1 (length items)) start
     pub pushed : FoldsTo (EntersBack grows) start items q
     pub one_each : length q.entries ≡ length items
 
-  -- into a bounded queue
-  abbrev pub FliesInTurn : List F → OrderedInFlight F A → Type 0
-  FliesInTurn = HoldsInTurn false
-
-  -- into a queue that grows
-  abbrev pub EntersInOrder : List F → OrderedInFlight F A → Type 0
-  EntersInOrder = HoldsInTurn true
-
   -- One push that returns the future if it is refused: `pushes` says what becomes of the queue otherwise.
   pub record PushesOrComesBack
       (grows : Bool)
-      (pushes : OrderedInFlight F A → F → OrderedInFlight F A → Type 0)
-      (old : OrderedInFlight F A)
+      (pushes : Ordered (Flights F ℕ) A → F → Ordered (Flights F ℕ) A → Type 0)
+      (old : Ordered (Flights F ℕ) A)
       (pushed : F)
       (result : Result (Unit {0}) F)
-      (new : OrderedInFlight F A)
+      (new : Ordered (Flights F ℕ) A)
       : Type 0 where
     -- if the push succeeds, the future is added
     pub went_in : OnOk result (pushes old pushed new)
@@ -160,47 +126,39 @@ module _ {F A : Type 0} (future : FutureOf F A) where
     -- the queue may be polled
     pub again : CanPollOrdered new
 
-  -- how the futures in flight are polled
-  abbrev pub flying_polls : NumberedPollsOf (Flights F ℕ) PollFuture A
-  flying_polls = record {
-    can_poll = CanPollQueue future;
-    gives = PollsByNumber future;
-    needs = FlightsWaitAt;
-  }
-
   -- One poll, which takes the queue from `old` to `new` and the task from `cx` to `left`.
   pub record AnswersInTurn
       (grows : Bool)
-      (old : OrderedInFlight F A)
+      (old : Ordered (Flights F ℕ) A)
       (answer : Poll (Option A))
-      (new : OrderedInFlight F A)
+      (new : Ordered (Flights F ℕ) A)
       (cx left : Context)
       : Type 0 where
     -- while the front is in progress the futures are polled, and each output is kept in the entry of its number; then
     -- comes the front's output, `None` or `Pending`
-    pub polls : PollsOrdered flight_count SameRoom flying_polls old answer new cx left
-    -- no future of a pending queue waits for memory, or the task is woken
-    pub started : OnPending answer ((new.set.waiting ≡ []) ⊎ IsWoken left)
+    pub gave : OrderedGives (BesideTask (PollsQueued future (λ came. (came.tag, came.output))))
+        (λ set. held_count set.0.slots) (with_task old cx) answer (with_task new left)
     -- `None` comes only if there was no entry, and changes nothing; an output leaves one entry fewer
     pub empty : IfReady answer (λ o. IfNone o ((length old.entries ≡ 0) × (new ≡ old)))
     pub fewer : IfReady answer (λ o. OnSome o (length new.entries + 1 ≡ length old.entries))
-    -- a pending poll leaves as many entries as before
+    -- a pending poll leaves as many entries as before, and a future is in progress
     pub same_count : OnPending answer (length new.entries ≡ length old.entries)
-    -- there are as many slots as before, one at least, and no more entries than slots, unless the queue grows
-    pub same_room : SameRoom old.set new.set
-    pub some : 0 < flight_slots new.set
-    pub bound : FitsSlots grows new
-
-  -- one poll of a bounded queue
-  abbrev pub PollsInTurn : OrderedInFlight F A → Poll (Option A) → OrderedInFlight F A → Context → Context → Type 0
-  PollsInTurn = AnswersInTurn false
-
-  -- one poll, of the queue alone, without the task
-  abbrev pub GivesInTurn : OrderedInFlight F A → Poll (Option A) → OrderedInFlight F A → Type 0
-  GivesInTurn = OrderedGives (OfSomeTask (PollsByNumber future)) flight_count
+    pub holds : OnPending answer (0 < held_count new.set.slots)
+    -- there are as many slots as before, the entries have places as before, and there are no more entries than slots,
+    -- unless the queue grows
+    pub same_room : (flight_slots new.set ≡ flight_slots old.set) × (new.room ≡ old.room)
+    pub bound : grows ≡ false → length new.entries ≤ flight_slots new.set
+    -- the task of a pending queue is registered where its futures wait, or is woken
+    pub registered : OnPending answer (Covers left (FlightsWaitAt new.set))
+    -- no future of a pending queue waits for memory, or the task is woken
+    pub started : OnPending answer ((new.set.waiting ≡ []) ⊎ IsWoken left)
+    -- what the task was registered for or woken for before still holds
+    pub kept : Keeps cx left
+    -- the queue may be polled
+    pub again : CanPollOrdered new
 
   -- What polling until the output of the front, or `None`, makes of the queue.
-  pub record CameInTurn (old : OrderedInFlight F A) (came : Option A) (new : OrderedInFlight F A)
+  pub record CameInTurn (old : Ordered (Flights F ℕ) A) (came : Option A) (new : Ordered (Flights F ℕ) A)
       : Type 0 where
     -- this might come first from the old queue
     pub gave : ComesOfEach old [] came

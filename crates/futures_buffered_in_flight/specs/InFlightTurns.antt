@@ -1,18 +1,19 @@
--- What a turn of a poll, and the start of a future that waits, make of a set of futures in flight.
+-- What the start of a future that waits, and a turn of a poll, make of a set of futures in flight.
 use Rattle.std.specs.Prelude.{◌≡◌, ◌+◌, ◌≤◌, ◌⊎◌, Option, length}
-use Rattle.futures.specs.declared.task.context.Context.{Context}
-use Rattle.futures.specs.Task.{Keeps}
-use Rattle.futures_buffered_in_flight.specs.InFlight.{Flights, FutureOf, CanPollAll, CanPollRuns, CanPollWaiting}
-use Rattle.futures_buffered_in_flight.specs.InFlight.{FlightsGiveNoMore, MayCome, WaitGives, run_count}
+use Rattle.std.specs.List.{AllByRecursion}
+use Rattle.futures.specs.Queued.{AllPollable}
+use Rattle.futures_buffered_in_flight.specs.InFlight.{Flights, FutureOf, CanPollAll}
+use Rattle.futures_buffered_in_flight.specs.InFlight.{FlightsGiveNoMore, MayCome, WaitGives, run_count, runs_in}
 use Rattle.futures_buffered_in_flight.specs.declared.run.Key.{Key}
+use Rattle.futures_buffered_in_flight.specs.declared.run.Run.{Run}
 use Rattle.futures_buffered_in_flight.specs.declared.run.Waits.{Waits}
 
 module _ {F A T : Type 0} (future : FutureOf F A) where
   -- one future more runs or waits, which may give what `value` may; the slots, the cancelled futures and the next
   -- number do not change
   pub record Flies (old : Flights F T) (value : Waits F) (new : Flights F T) : Type 0 where
-    pub running : CanPollRuns future new.running
-    pub waiting : CanPollWaiting future new.waiting
+    pub running : AllPollable (λ (run : Run F). future.can_poll run.future) (runs_in new.running)
+    pub waiting : AllByRecursion (λ (w : Waits F). future.can_poll w.future) new.waiting
     pub gives : (came : Key × Option A) → MayCome future new came → MayCome future old came ⊎ WaitGives future value came
     pub counts : run_count new.running + length new.waiting ≡ run_count old.running + length old.waiting + 1
     pub slots : new.slots ≡ old.slots
@@ -26,10 +27,3 @@ module _ {F A T : Type 0} (future : FutureOf F A) where
     pub room : new.cancelled ≤ old.cancelled
     pub less : FlightsGiveNoMore future old new
     pub again : CanPollAll future new
-
-  -- one turn without a result: as `Starts`, the same futures wait, and the task keeps what it was registered or woken
-  -- for
-  pub record TurnsOn (old new : Flights F T) (cx left : Context) : Type 0 where
-    pub starts : Starts old new
-    pub same_waiting : new.waiting ≡ old.waiting
-    pub kept : Keeps cx left

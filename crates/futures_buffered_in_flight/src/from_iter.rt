@@ -5,13 +5,12 @@ ghost use Rattle.futures_buffered_core.specs.Drawn.{Draws, IsFiniteSource, Refus
 ghost use Rattle.futures_buffered_table.specs.declared.answer.TheConstants.{MAX_CAPACITY};
 ghost use Rattle.futures_buffered_unordered.specs.Extended.{EachDrawn, HoldsAllOf, MakesFull};
 ghost use Rattle.futures_buffered_in_flight.specs.InFlight.{CanPollAll, FliesInOrder, IsNewInFlight, flight_slots};
-ghost use Rattle.futures_buffered_in_flight.specs.InFlightOrdered.{CanPollOrdered, EntersBack, EntersInOrder, FliesInTurn};
-ghost use Rattle.futures_buffered_in_flight.specs.InFlightOrdered.{HoldsInTurn, ordered_room};
+ghost use Rattle.futures_buffered_in_flight.specs.InFlightOrdered.{CanPollOrdered, EntersBack, HoldsInTurn, ordered_room};
 ghost use Rattle.futures_buffered_in_flight.specs.InFlightQueue.{KeepsRoom};
 ghost use Rattle.futures_buffered_table.specs.declared.answer.NewFault.TheVariants.{Memory};
 
 use crate::in_flight::{FuturesUnorderedBy, Kind};
-use crate::in_flight_ordered::{FuturesOrdered, FuturesOrderedBounded, FuturesOrderedBy};
+use crate::in_flight_ordered::FuturesOrderedBy;
 use futures::Future;
 use futures_buffered_core::ready_core::{MAX_CAPACITY, NewFault};
 use std::alloc::Global;
@@ -102,9 +101,12 @@ impl<F: Future<Output: Drop>, K> FuturesUnorderedBy<F, (), K> {
 }
 
 impl<F: Future<Output = A>, A: Drop, K: Kind> FuturesOrderedBy<F, A, K> {
-    // Makes a queue of these futures, in their order, with a slot for each, and with one slot at least.
+    /// Makes a queue of these futures, in their order, with a slot for each, and with one slot at least. Does not poll.
+    /// A bounded queue has room for as many as slots.
+    ///
+    /// Fails, allocates and takes time as `from_iter` of a set does.
     #[tactic(auto, using(crate::proofs::FromIterLemmas::none_pushed, crate::proofs::FromIterLemmas::holds_in_turn, crate::proofs::FromIterLemmas::few_slots))]
-    fn with_items<I: IntoIterator<Item = F>>(alloc: Global, iter: I) -> Result<Self, NewFault>
+    pub fn from_iter<I: IntoIterator<Item = F>>(alloc: Global, iter: I) -> Result<Self, NewFault>
         requires finite { IsFiniteSource (items_of I.IntoIterator I.IntoIter.Iterator iter) }
         requires fit { EachDrawn (items_of I.IntoIterator I.IntoIter.Iterator iter) F.can_poll }
         ensures holds { IfOk result
@@ -117,36 +119,5 @@ impl<F: Future<Output = A>, A: Drop, K: Kind> FuturesOrderedBy<F, A, K> {
         let mut queue = Self::with_slots(alloc, futures.len().max(1))?;
         push_in_turn(&mut queue, futures)?;
         Ok(queue)
-    }
-}
-
-impl<F: Future<Output = A>, A: Drop> FuturesOrderedBounded<F, A> {
-    /// Makes a queue of these futures, in their order, with room for as many, and for one at least. Does not poll.
-    ///
-    /// Fails, allocates and takes time as `from_iter` of a set does.
-    pub fn from_iter<I: IntoIterator<Item = F>>(alloc: Global, iter: I) -> Result<Self, NewFault>
-        requires finite { IsFiniteSource (items_of I.IntoIterator I.IntoIter.Iterator iter) }
-        requires fit { EachDrawn (items_of I.IntoIterator I.IntoIter.Iterator iter) F.can_poll }
-        ensures made { MakesFull (items_of I.IntoIterator I.IntoIter.Iterator iter) ordered_room
-            (FliesInTurn F.Future) result }
-        ensures can_poll { IfOk result (CanPollOrdered F.Future) }
-    {
-        Self::with_items(alloc, iter)
-    }
-}
-
-impl<F: Future<Output = A>, A: Drop> FuturesOrdered<F, A> {
-    /// Makes a queue of these futures, in their order, with a slot for each, and with one slot at least. Does not poll.
-    ///
-    /// Fails, allocates and takes time as `from_iter` of a set does.
-    pub fn from_iter<I: IntoIterator<Item = F>>(alloc: Global, iter: I) -> Result<Self, NewFault>
-        requires finite { IsFiniteSource (items_of I.IntoIterator I.IntoIter.Iterator iter) }
-        requires fit { EachDrawn (items_of I.IntoIterator I.IntoIter.Iterator iter) F.can_poll }
-        ensures holds { IfOk result
-            (HoldsAllOf (items_of I.IntoIterator I.IntoIter.Iterator iter) (EntersInOrder F.Future)) }
-        ensures large { RefusesTooMany (items_of I.IntoIterator I.IntoIter.Iterator iter) result }
-        ensures can_poll { IfOk result (CanPollOrdered F.Future) }
-    {
-        Self::with_items(alloc, iter)
     }
 }

@@ -3,15 +3,18 @@
 //! A set owns the slots, and a `FuturesUnordered` of `futures`, which polls the futures that were pushed or woken. A
 //! `FuturesUnorderedBy` is of one of two kinds: `FuturesUnorderedBounded` has a fixed number of slots, and
 //! `FuturesUnordered` makes slots.
-ghost use Rattle.std.specs.Prelude.{◌≡◌, ◌+◌, ◌≤◌, ◌↔◌, ◌⊎◌, ◌<◌, Bool, false, true, [], IfOk, IfErr, OnErr, OnOk, IfSome};
-ghost use Rattle.std.specs.Prelude.{IfNone, IsSome, IsTrue, None, length};
+ghost use Rattle.std.specs.Prelude.{◌≡◌, ◌+◌, ◌^◌, ◌≤◌, ◌↔◌, ◌⊎◌, ◌<◌, Bool, false, true, [], IfOk, IfErr, OnErr, OnOk, IfSome};
+ghost use Rattle.std.specs.Prelude.{IsSome, IsTrue, None, length};
+ghost use Rattle.std.specs.List.{AllByRecursion};
+ghost use Rattle.futures.specs.Queued.{AllPollable, AnyGives};
 ghost use Rattle.futures_buffered_core.specs.Made.{MakesSlots};
-ghost use Rattle.futures_buffered_core.specs.SlotMap.{held_count, no_slots, slot_count, with_slot_freed};
-ghost use Rattle.futures_buffered_in_flight.specs.InFlight.{AnyRunGives, CanPollAll, CanPollRuns, CanPollWaiting};
-ghost use Rattle.futures_buffered_in_flight.specs.InFlight.{CancelsOrNone, EntersAt, HasNoRoom, IsHeld, IsNewInFlight};
-ghost use Rattle.futures_buffered_in_flight.specs.InFlight.{PushesInFlight};
+ghost use Rattle.futures_buffered_core.specs.SlotMap.{held_count, no_slots, slot_count};
+ghost use Rattle.futures_buffered_in_flight.specs.InFlight.{CanPollAll, CancelsOrNone, EntersAt, GivesWithKey, HasNoRoom};
+ghost use Rattle.futures_buffered_in_flight.specs.InFlight.{IsHeld, IsNewInFlight, PushesInFlight};
 ghost use Rattle.futures_buffered_in_flight.specs.InFlight.{flight_slots, room_taken, run_count, runs_in};
 ghost use Rattle.futures_buffered_in_flight.specs.InFlightTurns.{Flies};
+ghost use Rattle.futures_buffered_in_flight.specs.declared.run.Run.{Run};
+ghost use Rattle.futures_buffered_in_flight.specs.declared.run.Waits.{Waits};
 
 use crate::bells::Tables;
 use crate::run::{Key, Run, Waits};
@@ -154,11 +157,7 @@ impl<F: Drop, T: Drop, K> FuturesUnorderedBy<F, T, K> {
 
     // Frees the slot of this key, if its future is held, and returns the tag. The future occupies room as before.
     pub(crate) fn take_place(&mut self, key: Key) -> Option<T>
-        ensures none { IfNone result ((self.new ≡ self.old) × ((tag : T) → IsHeld self.old key tag → ⊥)) }
-        ensures some { IfSome result (λ tag. IsHeld self.old key tag
-            × (self.new.slots ≡ with_slot_freed self.old.slots key.slot)
-            × (held_count self.new.slots + 1 ≡ held_count self.old.slots)
-            × (self.new.cancelled ≡ self.old.cancelled + 1)) }
+        ensures cancels { CancelsOrNone self.old key result self.new }
         ensures rest { (self.new.running ≡ self.old.running) × (self.new.waiting ≡ self.old.waiting) }
         ensures keys { self.new.next ≡ self.old.next }
     {
@@ -269,24 +268,28 @@ impl<F: Future<Output: Drop>, T: Drop, K> FuturesUnorderedBy<F, T, K> {
         true
     }
 
-    // Pushes the future into the set of `futures`. Returns the future if that fails.
+    // Pushes the future into the set of `futures`. Returns the future if that fails, and under the last number.
     #[tactic(auto, using(crate::proofs::InFlightLemmas::none_pollable))]
     fn hand_over(&mut self, value: Waits<F>) -> Result<(), Waits<F>>
-        requires held { CanPollRuns F.Future self.old.running }
+        requires held { AllPollable (λ (run : Run F). F.can_poll run.future) (runs_in self.old.running) }
         requires new { F.can_poll value.future }
-        ensures pollable { CanPollRuns F.Future self.new.running }
-        ensures gives { (came : _) → AnyRunGives F.Future self.new.running came
-            → AnyRunGives F.Future self.old.running came
+        ensures pollable { AllPollable (λ (run : Run F). F.can_poll run.future) (runs_in self.new.running) }
+        ensures gives { (came : _) → AnyGives (GivesWithKey F.gives) (runs_in self.new.running) came
+            → AnyGives (GivesWithKey F.gives) (runs_in self.old.running) came
             ⊎ ((came.0 ≡ value.key) × IfSome came.1 (F.gives value.future)) }
-        ensures refused { OnErr result ((came : _) → AnyRunGives F.Future self.new.running came
-            → AnyRunGives F.Future self.old.running came) }
+        ensures refused { OnErr result ((came : _) → AnyGives (GivesWithKey F.gives) (runs_in self.new.running) came
+            → AnyGives (GivesWithKey F.gives) (runs_in self.old.running) came) }
         ensures one_more { OnOk result
             (run_count self.new.running ≡ run_count self.old.running + 1) }
         ensures no_more { OnErr result (run_count self.new.running ≡ run_count self.old.running) }
+        ensures below { OnOk result (value.key.push + 1 < 2 ^ 64) }
         ensures back { IfErr result (λ back. back ≡ value) }
         ensures slots { (self.new.slots ≡ self.old.slots) × (self.new.next ≡ self.old.next) }
         ensures room { (self.new.cancelled ≡ self.old.cancelled) × (self.new.waiting ≡ self.old.waiting) }
     {
+        if value.key.push == u64::MAX {
+            return Err(value);
+        }
         if !self.make_running() {
             return Err(value);
         }
@@ -307,18 +310,14 @@ impl<F: Future<Output: Drop>, T: Drop, K> FuturesUnorderedBy<F, T, K> {
     }
 
     // Pushes the future into the set of `futures`, or the future waits. With the last number it waits permanently.
-    #[tactic(auto, using(crate::proofs::InFlightLemmas::flies, crate::proofs::InFlightLemmas::left_waiting, crate::proofs::InFlightLemmas::waits_for_good))]
+    #[tactic(auto, using(crate::proofs::InFlightLemmas::flies, crate::proofs::InFlightLemmas::left_waiting))]
     pub(crate) fn start(&mut self, value: Waits<F>)
-        requires held { CanPollRuns F.Future self.old.running }
-        requires waits { CanPollWaiting F.Future self.old.waiting }
+        requires held { AllPollable (λ (run : Run F). F.can_poll run.future) (runs_in self.old.running) }
+        requires waits { AllByRecursion (λ (waits : Waits F). F.can_poll waits.future) self.old.waiting }
         requires new { F.can_poll value.future }
         requires room { length self.old.waiting + 1 ≤ room_taken self.old }
         ensures { Flies F.Future self.old value self.new }
     {
-        if value.key.push == u64::MAX {
-            self.waiting.push_back_reserved(value);
-            return;
-        }
         if let Err(value) = self.hand_over(value) {
             self.waiting.push_back_reserved(value);
         }
@@ -363,7 +362,7 @@ impl<F: Future<Output: Drop>, T: Drop, K> FuturesUnorderedBy<F, T, K> {
     /// tasks, it may wake the earlier task alone. Another future may be woken too, and is then polled once more.
     pub fn cancel(&mut self, key: Key) -> Option<T>
         requires { CanPollAll F.Future self.old }
-        ensures cancels { CancelsOrNone F.Future self.old key result self.new }
+        ensures cancels { CancelsOrNone self.old key result self.new }
         ensures again { CanPollAll F.Future self.new }
     {
         let tag = self.take_place(key)?;

@@ -4,7 +4,7 @@ ghost use Rattle.futures_buffered_core.specs.Drawn.{IsFiniteSource, items_of};
 ghost use Rattle.futures_buffered_core.specs.Made.{MakesSlots};
 ghost use Rattle.futures_buffered_unordered.specs.Extended.{EachDrawn, Extends};
 ghost use Rattle.futures_buffered_in_flight.specs.InFlight.{CanPollAll, HasNoRoom, IsNewInFlight, IsUsedUp, MakesRoom};
-ghost use Rattle.futures_buffered_in_flight.specs.InFlight.{MakesSlot, PushesInFlight, RefusesInFlight, WentIn};
+ghost use Rattle.futures_buffered_in_flight.specs.InFlight.{MakesSlot, PushesInFlight, WentIn};
 ghost use Rattle.futures_buffered_in_flight.specs.InFlightQueue.{KeepsRoom};
 
 use crate::in_flight::{FuturesUnorderedBy, Growing, Kind};
@@ -85,7 +85,7 @@ impl<F: Future<Output: Drop>, K: Kind> FuturesUnorderedBy<F, (), K> {
         requires held { CanPollAll F.Future self.old }
         requires each { EachDrawn (items_of I.IntoIterator I.IntoIter.Iterator iter) F.can_poll }
         ensures extends { Extends (items_of I.IntoIterator I.IntoIter.Iterator iter)
-            (WentIn F.Future K.GROWS tt) RefusesInFlight self.old result self.new }
+            (WentIn F.Future K.GROWS tt) (λ old new. HasNoRoom old × (new ≡ old)) self.old result self.new }
         ensures capacity { KeepsRoom K.GROWS self.old self.new }
         ensures again { CanPollAll F.Future self.new }
     {
@@ -115,14 +115,10 @@ impl<F: Future<Output: Drop>, T: Drop> FuturesUnordered<F, T> {
         Self::with_slots(alloc, n)
     }
 
-    /// Adds the future with a tag of the caller, so that a later poll polls it, and returns its key. Tags need not
-    /// differ.
+    /// Pushes as `push_tagged` of a bounded set does. If the set is full (`is_full`), makes a slot first.
     ///
-    /// If the set is full (`is_full`), makes a slot. Returns the future and the tag, and changes nothing, if the
-    /// allocation for the slot fails, and after 2^64 - 1 pushes. Allocates for the future what the set of `futures`
-    /// allocates, and that set itself if there is none. If this fails, the future waits, and a later poll tries again.
-    /// Many pushes together take time and memory in proportion to their number, unless an allocation fails. Wakes a
-    /// task whose poll was pending.
+    /// Returns the future and the tag, and changes nothing, if the allocation for the slot fails, and after 2^64 - 1
+    /// pushes. Many pushes together allocate in proportion to their number.
     pub fn push_tagged(&mut self, future: F, tag: T) -> Result<Key, (F, T)>
         requires held { CanPollAll F.Future self.old }
         requires fit { F.can_poll future }

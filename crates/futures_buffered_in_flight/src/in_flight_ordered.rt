@@ -2,15 +2,14 @@
 //!
 //! A `FuturesOrderedBy` is of one of two kinds: `FuturesOrderedBounded` has a fixed number of slots, and
 //! `FuturesOrdered` makes slots.
-ghost use Rattle.std.specs.Prelude.{◌≡◌, ◌↔◌, ◌<◌, IfOk, IsTrue, false, length, max, true};
+ghost use Rattle.std.specs.Prelude.{◌≡◌, ◌↔◌, ◌<◌, ◌≤◌, IfOk, IsTrue, false, length, max, true};
 ghost use Rattle.futures_buffered_core.specs.Drawn.{IsFiniteSource, items_of};
 ghost use Rattle.futures_buffered_core.specs.Made.{MakesSlots};
 ghost use Rattle.futures_buffered_unordered.specs.Extended.{EachDrawn, Extends};
 ghost use Rattle.futures_buffered_in_flight.specs.InFlight.{flight_slots};
 ghost use Rattle.futures_buffered_in_flight.specs.InFlightOrdered.{AnswersInTurn, CanPollOrdered, EntersBack, EntersFront};
-ghost use Rattle.futures_buffered_in_flight.specs.InFlightOrdered.{FitsSlots, IsCleared, IsNewInOrder, OrderedIsFull};
-ghost use Rattle.futures_buffered_in_flight.specs.InFlightOrdered.{PushesBack, PushesFront, PushesOrComesBack};
-ghost use Rattle.futures_buffered_in_flight.specs.InFlightOrdered.{RefusesInOrder};
+ghost use Rattle.futures_buffered_in_flight.specs.InFlightOrdered.{IsCleared, IsNewInOrder, MayRefuseFuture, OrderedIsFull};
+ghost use Rattle.futures_buffered_in_flight.specs.InFlightOrdered.{PushesOrComesBack};
 ghost use Rattle.futures_buffered_in_flight.specs.InFlightQueue.{KeepsRoom};
 
 use crate::in_flight::{Bounded, FuturesUnorderedBy, Growing, Kind};
@@ -40,9 +39,12 @@ pub type FuturesOrderedBounded<F, A> = FuturesOrderedBy<F, A, Bounded>;
 pub type FuturesOrdered<F, A> = FuturesOrderedBy<F, A, Growing>;
 
 impl<F: Drop, A: Drop, K: Kind> Model for FuturesOrderedBy<F, A, K> {
-    ghost use Rattle.futures_buffered_in_flight.specs.InFlightOrdered.{KeepsInOrder, OrderedInFlight};
+    ghost use Rattle.std.specs.Prelude.{ℕ};
+    ghost use Rattle.futures_buffered_ordered.specs.OrderedEntries.{Ordered};
+    ghost use Rattle.futures_buffered_in_flight.specs.InFlight.{Flights};
+    ghost use Rattle.futures_buffered_in_flight.specs.InFlightOrdered.{KeepsInOrder};
 
-    ghost Value = { OrderedInFlight F A };
+    ghost Value = { Ordered (Flights F ℕ) A };
 
     ghost view = { λ q. q.queue.queue };
 
@@ -51,10 +53,9 @@ impl<F: Drop, A: Drop, K: Kind> Model for FuturesOrderedBy<F, A, K> {
 
 impl<F: Drop, A: Drop, K: Kind> FuturesOrderedBy<F, A, K> {
     /// Returns the number of entries: futures in progress, and outputs that wait for their turn.
-    #[tactic(auto, using(crate::proofs::InFlightOrderedLemmas::fits_now))]
     pub fn len(&self) -> usize
         ensures value { result ≡ length self.now.entries }
-        ensures bound { FitsSlots K.GROWS self.now }
+        ensures bound { K.GROWS ≡ false → length self.now.entries ≤ flight_slots self.now.set }
     {
         self.queue.len()
     }
@@ -139,7 +140,8 @@ impl<F: Future<Output = A>, A: Drop, K: Kind> FuturesOrderedBy<F, A, K> {
         requires held { CanPollOrdered F.Future self.old }
         requires each { EachDrawn (items_of I.IntoIterator I.IntoIter.Iterator iter) F.can_poll }
         ensures extends { Extends (items_of I.IntoIterator I.IntoIter.Iterator iter)
-            (EntersBack F.Future K.GROWS) (RefusesInOrder K.GROWS) self.old result self.new }
+            (EntersBack F.Future K.GROWS) (λ old new. MayRefuseFuture K.GROWS old × (new ≡ old))
+            self.old result self.new }
         ensures same_room { KeepsRoom K.GROWS self.old.set self.new.set }
         ensures again { CanPollOrdered F.Future self.new }
     {
@@ -195,7 +197,7 @@ impl<F: Future<Output = A>, A: Drop> FuturesOrderedBounded<F, A> {
     pub fn try_push_back(&mut self, future: F) -> Result<(), F>
         requires held { CanPollOrdered F.Future self.old }
         requires fit { F.can_poll future }
-        ensures { PushesOrComesBack F.Future false (PushesBack F.Future) self.old future result self.new }
+        ensures { PushesOrComesBack F.Future false (EntersBack F.Future false) self.old future result self.new }
     {
         self.add_back(future)
     }
@@ -204,7 +206,7 @@ impl<F: Future<Output = A>, A: Drop> FuturesOrderedBounded<F, A> {
     pub fn try_push_front(&mut self, future: F) -> Result<(), F>
         requires held { CanPollOrdered F.Future self.old }
         requires fit { F.can_poll future }
-        ensures { PushesOrComesBack F.Future false (PushesFront F.Future) self.old future result self.new }
+        ensures { PushesOrComesBack F.Future false (EntersFront F.Future false) self.old future result self.new }
     {
         self.add_front(future)
     }
@@ -214,7 +216,7 @@ impl<F: Future<Output = A>, A: Drop> FuturesOrderedBounded<F, A> {
         requires room { length self.old.entries < flight_slots self.old.set }
         requires held { CanPollOrdered F.Future self.old }
         requires fit { F.can_poll future }
-        ensures { PushesBack F.Future self.old future self.new }
+        ensures { EntersBack F.Future false self.old future self.new }
     {
         match self.add_back(future) {
             Ok(()) => {}
@@ -227,7 +229,7 @@ impl<F: Future<Output = A>, A: Drop> FuturesOrderedBounded<F, A> {
         requires room { length self.old.entries < flight_slots self.old.set }
         requires held { CanPollOrdered F.Future self.old }
         requires fit { F.can_poll future }
-        ensures { PushesFront F.Future self.old future self.new }
+        ensures { EntersFront F.Future false self.old future self.new }
     {
         match self.add_front(future) {
             Ok(()) => {}
@@ -254,12 +256,11 @@ impl<F: Future<Output = A>, A: Drop> FuturesOrdered<F, A> {
         Self::with_slots(alloc, n.max(1))
     }
 
-    /// Adds the future after all others, so that a later poll polls it.
+    /// Adds the future as `try_push_back` of a bounded queue does, and makes a slot and an entry for it.
     ///
     /// Returns the future, and changes nothing, if the allocation for a slot or an entry fails, at `MAX_LEN` entries,
-    /// and after 2^64 - 1 pushes. Allocates for the future what the set of `futures` allocates, and that set itself if
-    /// there is none. If this fails, the future waits, and a later poll tries again. Many pushes together take time and
-    /// memory in proportion to their number, unless an allocation fails.
+    /// and after 2^64 - 1 pushes. Many pushes together take time and memory in proportion to their number, unless an
+    /// allocation fails.
     pub fn push_back(&mut self, future: F) -> Result<(), F>
         requires held { CanPollOrdered F.Future self.old }
         requires fit { F.can_poll future }

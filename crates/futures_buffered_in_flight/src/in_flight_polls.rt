@@ -1,14 +1,14 @@
 //! The polls of a set: a poll starts each future that waits for memory, and then polls the set of `futures`.
-ghost use Rattle.std.specs.Prelude.{◌≡◌, ◌⊎◌, ◌<◌, [], IfSome, IfNone, IsTrue};
+ghost use Rattle.std.specs.Prelude.{◌≡◌, ◌⊎◌, ◌<◌, ◌+◌, [], IfSome, IfNone, IsTrue, length};
 ghost use Rattle.futures.specs.Poll.{IfReady, OnPending};
-ghost use Rattle.futures.specs.Queued.{GivesNoMore};
+ghost use Rattle.futures.specs.Queued.{AllPollable, AnyGives, GivesNoMore};
 ghost use Rattle.futures.specs.Task.{Covers, Keeps};
 ghost use Rattle.futures_buffered_core.specs.SlotMap.{held_count};
 ghost use Rattle.futures_buffered_unordered.specs.FuturesUnorderedBounded.{IsWoken};
-ghost use Rattle.futures_buffered_in_flight.specs.InFlight.{AnyRunGives, CanPollAll, CanPollRuns, FlightsGiveNoMore};
-ghost use Rattle.futures_buffered_in_flight.specs.InFlight.{FlightsWaitAt, GivesWithKey, HasEach, PollsInFlight};
-ghost use Rattle.futures_buffered_in_flight.specs.InFlight.{run_count, runs_in};
-ghost use Rattle.futures_buffered_in_flight.specs.InFlightTurns.{Starts, TurnsOn};
+ghost use Rattle.futures_buffered_in_flight.specs.InFlight.{CanPollAll, FlightsGiveNoMore, FlightsWaitAt, GivesWithKey};
+ghost use Rattle.futures_buffered_in_flight.specs.InFlight.{PollsInFlight, room_taken, run_count, runs_in};
+ghost use Rattle.futures_buffered_in_flight.specs.InFlightTurns.{Starts};
+ghost use Rattle.futures_buffered_in_flight.specs.declared.run.Run.{Run};
 
 use crate::in_flight::{Came, FuturesUnorderedBy};
 use crate::run::Key;
@@ -64,9 +64,10 @@ impl<F: Future<Output: Drop>, T: Drop, K> FuturesUnorderedBy<F, T, K> {
     // Polls the set of `futures` once. A pending poll leaves some futures there.
     #[tactic(auto, using(crate::proofs::InFlightLemmas::narrows_after, crate::proofs::InFlightLemmas::narrows_within))]
     fn poll_running(&mut self, cx: &mut Context<'_>) -> Poll<Option<(Key, Option<F::Output>)>>
-        requires { CanPollRuns F.Future self.old.running }
-        ensures pollable { CanPollRuns F.Future self.new.running }
-        ensures gave { IfReady result (λ o. IfSome o (AnyRunGives F.Future self.old.running)) }
+        requires { AllPollable (λ (run : Run F). F.can_poll run.future) (runs_in self.old.running) }
+        ensures pollable { AllPollable (λ (run : Run F). F.can_poll run.future) (runs_in self.new.running) }
+        ensures gave { IfReady result
+            (λ o. IfSome o (AnyGives (GivesWithKey F.gives) (runs_in self.old.running))) }
         ensures gives { GivesNoMore (GivesWithKey F.gives)
             (runs_in self.old.running) (runs_in self.new.running) }
         ensures rest { (self.new.slots ≡ self.old.slots) × (self.new.next ≡ self.old.next)
@@ -95,7 +96,8 @@ impl<F: Future<Output: Drop>, T: Drop, K> FuturesUnorderedBy<F, T, K> {
     // Follows a pending poll of the set of `futures`. Wakes the task if a cancelled future is left, or if not each
     // future is there: no clause of `futures` says that it is.
     fn stay(&self, cx: &mut Context<'_>)
-        ensures stays { HasEach self.now ⊎ IsWoken cx.new }
+        ensures stays { (run_count self.now.running + length self.now.waiting ≡ room_taken self.now)
+            ⊎ IsWoken cx.new }
         ensures ended { (self.now.cancelled ≡ 0) ⊎ IsWoken cx.new }
         ensures kept { Keeps cx.old cx.new }
     {
@@ -128,7 +130,8 @@ impl<F: Future<Output: Drop>, T: Drop, K> FuturesUnorderedBy<F, T, K> {
         requires some { 0 < held_count self.old.slots }
         requires started { (self.old.waiting ≡ []) ⊎ IsWoken cx.old }
         ensures came { IfSome result (λ answer. PollsInFlight F.Future self.old answer self.new cx.old cx.new) }
-        ensures none { IfNone result (TurnsOn F.Future self.old self.new cx.old cx.new) }
+        ensures none { IfNone result (Starts F.Future self.old self.new
+            × (self.new.waiting ≡ self.old.waiting) × Keeps cx.old cx.new) }
     {
         if self.flying() == 0 {
             return Some(cx.yield_now());

@@ -1,9 +1,9 @@
 //! The set as an adaptor or an ordered queue holds it: a push accepts each future while a slot is free.
-ghost use Rattle.std.specs.Prelude.{◌≡◌, ◌<◌, IsTrue, OnOk, OnErr, IfErr, IsErr, false, true};
+ghost use Rattle.std.specs.Prelude.{◌≡◌, ◌<◌, ◌≤◌, IsTrue, OnOk, OnErr, IfErr, IsErr, false, true};
+ghost use Rattle.futures_buffered_core.specs.SlotMap.{held_count};
 ghost use Rattle.futures_buffered_in_flight.specs.InFlight.{MakesRoom, flight_slots};
-ghost use Rattle.futures_buffered_in_flight.specs.InFlightQueue.{CanPollQueue, HasGrown, MayRefuseNumber, PollsByNumber};
-ghost use Rattle.futures_buffered_in_flight.specs.InFlightQueue.{PollsQueued, PushesQueued, QueuesNumber};
-ghost use Rattle.futures_buffered_in_flight.specs.InFlightQueue.{RefusesNumbers, TakesNumber, flight_count, flights_with};
+ghost use Rattle.futures_buffered_in_flight.specs.InFlightQueue.{CanPollQueue, MayRefuseNumber, PollsQueued};
+ghost use Rattle.futures_buffered_in_flight.specs.InFlightQueue.{PushesQueued, RefusesNumbers, flights_with};
 
 use crate::in_flight::{FuturesUnorderedBounded, FuturesUnorderedBy, Kind};
 use futures::Future;
@@ -16,22 +16,22 @@ use futures_buffered_unordered::poll_one::PollFuture;
 impl<F: Future<Output: Drop>> FuturesUnorderedBounded<F> {
     /// Adds the future, so that a later poll polls it, to a set with a free slot and without cancelled futures. After
     /// 2^64 - 1 pushes the set holds the future, and never polls it.
-    #[tactic(auto, using(crate::proofs::InFlightQueueLemmas::pushed))]
+    #[tactic(auto, using(crate::proofs::InFlightQueueLemmas::queued))]
     pub fn push_queued(&mut self, future: F)
-        requires room { flight_count self.old < flight_slots self.old }
+        requires room { held_count self.old.slots < flight_slots self.old }
         requires held { CanPollQueue F.Future self.old }
         requires fit { F.can_poll future }
-        ensures { PushesQueued F.Future self.old future self.new }
+        ensures { PushesQueued F.Future false self.old future tt self.new }
     {
         self.push_any(future, ());
     }
 
     /// Polls as `poll_next_keyed` does. Returns an output of one of the futures without its key, or `None` if and only
     /// if no future is held.
-    #[tactic(auto, using(crate::proofs::InFlightQueueLemmas::polled_output, crate::proofs::InFlightQueueLemmas::ended, crate::proofs::InFlightQueueLemmas::pending))]
+    #[tactic(auto, using(crate::proofs::InFlightQueueLemmas::can_poll_again))]
     pub fn poll_queued(&mut self, cx: &mut Context<'_>) -> Poll<Option<F::Output>>
         requires { CanPollQueue F.Future self.old }
-        ensures { PollsQueued F.Future self.old result self.new cx.old cx.new }
+        ensures { PollsQueued F.Future (λ came. came.output) self.old result self.new cx.old cx.new }
     {
         match self.poll_next_keyed(cx) {
             Poll::Pending => Poll::Pending,
@@ -42,26 +42,14 @@ impl<F: Future<Output: Drop>> FuturesUnorderedBounded<F> {
 }
 
 impl<F: Future<Output: Drop>, K> FuturesUnorderedBy<F, usize, K> {
-    // Pushes as `push_queued` does, with a number as the tag.
-    #[tactic(auto, using(crate::proofs::InFlightQueueLemmas::pushed_number))]
-    pub(crate) fn push_with_number(&mut self, value: Numbered<F>)
-        requires room { flight_count self.old < flight_slots self.old }
-        requires held { CanPollQueue F.Future self.old }
-        requires fit { F.can_poll value.future }
-        ensures { QueuesNumber F.Future self.old value.future value.number self.new }
-    {
-        let Numbered { future, number } = value;
-        self.push_any(future, number);
-    }
-
     // Polls as `poll_queued` does. Returns an output with the number of its future.
-    #[tactic(auto, using(crate::proofs::InFlightQueueLemmas::number_came, crate::proofs::InFlightQueueLemmas::number_ended, crate::proofs::InFlightQueueLemmas::number_pending))]
+    #[tactic(auto, using(crate::proofs::InFlightQueueLemmas::can_poll_again))]
     pub(crate) fn poll_with_number(
         &mut self,
         cx: &mut Context<'_>,
     ) -> Poll<Option<(usize, F::Output)>>
         requires { CanPollQueue F.Future self.old }
-        ensures { PollsByNumber F.Future self.old result self.new cx.old cx.new }
+        ensures { PollsQueued F.Future (λ came. (came.tag, came.output)) self.old result self.new cx.old cx.new }
     {
         match self.poll_next_keyed(cx) {
             Poll::Pending => Poll::Pending,
@@ -78,7 +66,7 @@ impl<F: Future<Output: Drop>, K: Kind> FuturesUnorderedBy<F, usize, K> {
         requires { CanPollQueue F.Future self.old }
         ensures grown { IsTrue result → K.GROWS ≡ true → MakesRoom self.old self.new }
         ensures bounded { K.GROWS ≡ false → self.new ≡ self.old }
-        ensures room { IsTrue result → flight_count self.new < flight_slots self.new }
+        ensures room { IsTrue result → held_count self.new.slots < flight_slots self.new }
         ensures none { result ≡ false → MayRefuseNumber K.GROWS self.old × (self.new ≡ self.old) }
         ensures full { RefusesNumbers K.GROWS self.old → result ≡ false }
         ensures again { CanPollQueue F.Future self.new }
@@ -92,25 +80,22 @@ impl<F: Future<Output: Drop>, K: Kind> FuturesUnorderedBy<F, usize, K> {
 }
 
 impl<F: Future<Output: Drop>, K: Kind> NumberedSet for FuturesUnorderedBy<F, usize, K> {
-    ghost use Rattle.std.proofs.Common.{◌≡◌, OnOk, OnErr, IfErr, IsErr};
     ghost use Rattle.std.proofs.Math.Nat.{le_refl, le_trans};
     ghost use Rattle.futures_buffered_ordered.specs.Numbered.{PushesInto};
-    ghost use Rattle.futures_buffered_in_flight.specs.InFlightQueue.{CanPollQueue, HasGrown, MayRefuseNumber};
-    ghost use Rattle.futures_buffered_in_flight.specs.InFlightQueue.{RefusesNumbers, TakesNumber, flight_count, flights_with};
 
     type Future = F;
 
-    ghost count = { flight_count };
+    ghost count = { λ set. held_count set.slots };
 
     ghost with_number = { flights_with };
 
-    ghost pushes = { TakesNumber F.Future K.GROWS };
+    ghost pushes = { λ old pushed number new. PushesQueued F.Future K.GROWS old pushed number new };
 
     ghost may_refuse = { MayRefuseNumber K.GROWS };
 
     ghost refuses = { RefusesNumbers K.GROWS };
 
-    ghost keeps = { HasGrown };
+    ghost keeps = { λ old new. flight_slots old ≤ flight_slots new };
 
     ghost takes = { CanPollQueue F.Future };
 
@@ -125,12 +110,12 @@ impl<F: Future<Output: Drop>, K: Kind> NumberedSet for FuturesUnorderedBy<F, usi
         }
     }
 
-    #[tactic(auto, using(crate::proofs::InFlightQueueLemmas::taken))]
+    #[tactic(auto, using(crate::proofs::InFlightQueueLemmas::can_push, crate::proofs::InFlightQueueLemmas::taken))]
     fn push_numbered(&mut self, value: Numbered<F>) -> Result<(), Numbered<F>>
         requires held { CanPollQueue F.Future self.old }
         requires fit { F.can_poll value.future }
-        ensures pushed { OnOk result (PushesInto (TakesNumber F.Future K.GROWS) flight_count flights_with
-            HasGrown self.old value self.new) }
+        ensures pushed { OnOk result (PushesInto (PushesQueued F.Future K.GROWS) (λ set. held_count set.slots)
+            flights_with (λ old new. flight_slots old ≤ flight_slots new) self.old value self.new) }
         ensures back { IfErr result (λ back. (back ≡ value) × (self.new ≡ self.old)) }
         ensures room { OnErr result (MayRefuseNumber K.GROWS self.old) }
         ensures full { RefusesNumbers K.GROWS self.old → IsErr result }
@@ -139,7 +124,8 @@ impl<F: Future<Output: Drop>, K: Kind> NumberedSet for FuturesUnorderedBy<F, usi
         if !self.make_slot_free() {
             return Err(value);
         }
-        self.push_with_number(value);
+        let Numbered { future, number } = value;
+        self.push_any(future, number);
         Ok(())
     }
 
@@ -150,13 +136,12 @@ impl<F: Future<Output: Drop>, K: Kind> NumberedSet for FuturesUnorderedBy<F, usi
 
 impl<F: Future<Output: Drop>, K> NumberedPolls<PollFuture> for FuturesUnorderedBy<F, usize, K> {
     ghost use Rattle.futures_buffered_in_flight.specs.InFlight.{FlightsWaitAt};
-    ghost use Rattle.futures_buffered_in_flight.specs.InFlightQueue.{CanPollQueue, PollsByNumber};
 
     type Output = F::Output;
 
     ghost can_poll = { CanPollQueue F.Future };
 
-    ghost gives = { PollsByNumber F.Future };
+    ghost gives = { PollsQueued F.Future (λ came. (came.tag, came.output)) };
 
     ghost needs = { FlightsWaitAt };
 }

@@ -4,7 +4,7 @@ ghost use Rattle.futures_buffered_core.specs.SlotMap.{no_slots, slot_count};
 ghost use Rattle.futures_buffered_in_flight.specs.InFlight.{CancelsOrNone, ComesFromSlots, EntersAt, FlightsWaitAt};
 ghost use Rattle.futures_buffered_in_flight.specs.InFlight.{HasNoRoom, PollsInFlight, PushesInFlight, flight_slots};
 ghost use Rattle.futures_buffered_in_flight.specs.InFlightOrdered.{AnswersInTurn, ComesOfEach, EntersBack, EntersFront};
-ghost use Rattle.futures_buffered_in_flight.specs.InFlightOrdered.{IsCleared, OrderedWaitsAt, PushesBack, PushesFront};
+ghost use Rattle.futures_buffered_in_flight.specs.InFlightOrdered.{IsCleared, OrderedWaitsAt};
 ghost use Rattle.futures_buffered_in_flight.specs.InFlightOrdered.{PushesOrComesBack};
 
 use crate::in_flight::{Came, FuturesUnorderedBounded, FuturesUnorderedBy, Kind};
@@ -117,7 +117,7 @@ impl<F: Future<Output: Drop>, T: Drop, K> Kept<FuturesUnorderedBy<F, T, K>> {
 
     /// Cancels as `FuturesUnorderedBy::cancel` does.
     pub fn cancel(&mut self, key: Key) -> Option<T>
-        ensures { CancelsOrNone F.Future self.old key result self.new }
+        ensures { CancelsOrNone self.old key result self.new }
     {
         self.held.cancel(key)
     }
@@ -163,7 +163,7 @@ impl<F: Future<Output = A>, A: Drop> Kept<FuturesOrderedBounded<F, A>> {
     /// Adds the future as `FuturesOrderedBounded::try_push_back` does.
     pub fn try_push_back(&mut self, future: F) -> Result<(), F>
         requires { F.can_poll future }
-        ensures { PushesOrComesBack F.Future false (PushesBack F.Future) self.old future result self.new }
+        ensures { PushesOrComesBack F.Future false (EntersBack F.Future false) self.old future result self.new }
     {
         self.held.try_push_back(future)
     }
@@ -171,7 +171,7 @@ impl<F: Future<Output = A>, A: Drop> Kept<FuturesOrderedBounded<F, A>> {
     /// Adds the future as `FuturesOrderedBounded::try_push_front` does.
     pub fn try_push_front(&mut self, future: F) -> Result<(), F>
         requires { F.can_poll future }
-        ensures { PushesOrComesBack F.Future false (PushesFront F.Future) self.old future result self.new }
+        ensures { PushesOrComesBack F.Future false (EntersFront F.Future false) self.old future result self.new }
     {
         self.held.try_push_front(future)
     }

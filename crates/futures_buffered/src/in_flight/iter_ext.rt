@@ -1,10 +1,9 @@
 //! Sets, queues, joins and merges of futures and streams of `futures` as methods of an iterator.
-ghost use Rattle.std.specs.Prelude.{◌≡◌, ◌^◌, ◌-◌, IfOk};
+ghost use Rattle.std.specs.Prelude.{◌≡◌, ◌^◌, ◌-◌, IfOk, false, true};
 ghost use Rattle.futures_buffered_core.specs.Drawn.{IsFiniteSource, items_of};
 ghost use Rattle.futures_buffered_unordered.specs.Extended.{EachDrawn, HoldsAllOf, MakesFull};
 ghost use Rattle.futures_buffered_in_flight.specs.InFlight.{CanPollAll, FliesInOrder, flight_slots};
-ghost use Rattle.futures_buffered_in_flight.specs.InFlightOrdered.{CanPollOrdered, EntersInOrder, FliesInTurn};
-ghost use Rattle.futures_buffered_in_flight.specs.InFlightOrdered.{ordered_room};
+ghost use Rattle.futures_buffered_in_flight.specs.InFlightOrdered.{CanPollOrdered, HoldsInTurn, ordered_room};
 ghost use Rattle.futures_buffered_joins.specs.InFlightJoin.{CanPollFlying, MakesFlying};
 ghost use Rattle.futures_buffered_merges.specs.InFlightMerge.{HoldsStreams};
 
@@ -65,7 +64,7 @@ pub trait IterExt: IntoIterator + Sized {
         requires finite { IsFiniteSource (items_of Self.IntoIterator Self.IntoIter.Iterator self) }
         requires fit { EachDrawn (items_of Self.IntoIterator Self.IntoIter.Iterator self) Self.Item.can_poll }
         ensures made { MakesFull (items_of Self.IntoIterator Self.IntoIter.Iterator self) ordered_room
-            (FliesInTurn Self.Item.Future) result }
+            (HoldsInTurn Self.Item.Future false) result }
         ensures can_poll { IfOk result (CanPollOrdered Self.Item.Future) }
     {
         FuturesOrderedBounded::from_iter(alloc, self)
@@ -82,7 +81,7 @@ pub trait IterExt: IntoIterator + Sized {
         requires finite { IsFiniteSource (items_of Self.IntoIterator Self.IntoIter.Iterator self) }
         requires fit { EachDrawn (items_of Self.IntoIterator Self.IntoIter.Iterator self) Self.Item.can_poll }
         ensures holds { IfOk result
-            (HoldsAllOf (items_of Self.IntoIterator Self.IntoIter.Iterator self) (EntersInOrder Self.Item.Future)) }
+            (HoldsAllOf (items_of Self.IntoIterator Self.IntoIter.Iterator self) (HoldsInTurn Self.Item.Future true)) }
         ensures can_poll { IfOk result (CanPollOrdered Self.Item.Future) }
     {
         FuturesOrdered::from_iter(alloc, self)

@@ -1,8 +1,9 @@
 //! Sets and queues of futures of `futures`, as what a buffer holds.
+ghost use Rattle.futures_buffered_core.specs.SlotMap.{held_count};
 ghost use Rattle.futures_buffered_in_flight.specs.InFlight.{ComesFromSlots, FlightsWaitAt, flight_slots};
-ghost use Rattle.futures_buffered_in_flight.specs.InFlightOrdered.{CanPollOrdered, ComesOfEach, OrderedWaitsAt};
-ghost use Rattle.futures_buffered_in_flight.specs.InFlightOrdered.{PollsInTurn, PushesBack, ordered_room};
-ghost use Rattle.futures_buffered_in_flight.specs.InFlightQueue.{CanPollQueue, PollsQueued, PushesQueued, flight_count};
+ghost use Rattle.futures_buffered_in_flight.specs.InFlightOrdered.{AnswersInTurn, CanPollOrdered, ComesOfEach, EntersBack};
+ghost use Rattle.futures_buffered_in_flight.specs.InFlightOrdered.{OrderedWaitsAt, ordered_room};
+ghost use Rattle.futures_buffered_in_flight.specs.InFlightQueue.{CanPollQueue, PollsQueued, PushesQueued};
 ghost use Rattle.futures_buffered.specs.FutureQueue.{OnlyPushes};
 
 use crate::future_queue::FutureQueue;
@@ -15,13 +16,13 @@ impl<F: Future<Output: Drop>> FutureQueue<F> for FuturesUnorderedBounded<F> {
 
     type Output = F::Output;
 
-    ghost count = { flight_count };
+    ghost count = { λ set. held_count set.slots };
 
     ghost room = { flight_slots };
 
-    ghost pushes = { OnlyPushes (PushesQueued F.Future) };
+    ghost pushes = { OnlyPushes (λ old pushed new. PushesQueued F.Future false old pushed tt new) };
 
-    ghost polls = { PollsQueued F.Future };
+    ghost polls = { PollsQueued F.Future (λ came. came.output) };
 
     ghost is_fit = { F.can_poll };
 
@@ -43,7 +44,7 @@ impl<F: Future<Output: Drop>> FutureQueue<F> for FuturesUnorderedBounded<F> {
         FuturesUnorderedBounded::capacity(self)
     }
 
-    #[tactic(auto, using(crate::proofs::InFlightLemmas::push_leaves, crate::proofs::InFlightLemmas::push_adds))]
+    #[tactic(auto, using(crate::proofs::InFlightLemmas::push_leaves))]
     fn push(&mut self, future: F) -> Option<F::Output> {
         self.push_queued(future);
         None
@@ -55,7 +56,7 @@ impl<F: Future<Output: Drop>> FutureQueue<F> for FuturesUnorderedBounded<F> {
 }
 
 impl<F: Future<Output = A>, A: Drop> FutureQueue<F> for FuturesOrderedBounded<F, A> {
-    ghost use Rattle.std.specs.Prelude.{true, length};
+    ghost use Rattle.std.specs.Prelude.{false, true, length};
 
     type Output = A;
 
@@ -63,9 +64,9 @@ impl<F: Future<Output = A>, A: Drop> FutureQueue<F> for FuturesOrderedBounded<F,
 
     ghost room = { ordered_room };
 
-    ghost pushes = { OnlyPushes (PushesBack F.Future) };
+    ghost pushes = { OnlyPushes (EntersBack F.Future false) };
 
-    ghost polls = { PollsInTurn F.Future };
+    ghost polls = { AnswersInTurn F.Future false };
 
     ghost is_fit = { F.can_poll };
 

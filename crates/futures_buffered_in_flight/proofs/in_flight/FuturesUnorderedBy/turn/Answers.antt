@@ -11,11 +11,10 @@ returns-in-Some-clause-came g c =
 
 pub returns-in-Ready-Some-default-None-clause-none : goal.returns-in-Ready-Some-default-None-clause-none
 returns-in-Ready-Some-default-None-clause-none g c =
-    let rest = c.poll_running.ensures.rest in
-    record {
-      starts = turned g.F.Future c.args.self.now c.poll_running.new.self c.end_cancelled-in-Ready-Some-default-None.new.self c.requires.held
+    let rest = c.poll_running.ensures.rest in (
+      turned g.F.Future c.args.self.now c.poll_running.new.self c.end_cancelled-in-Ready-Some-default-None.new.self c.requires.held
           c.poll_running.ensures.pollable c.poll_running.ensures.gives rest.0 rest.1 rest.2 rest.3
-          (search rules) (search rules) (search rules) (search rules) (search rules);
-      same_waiting = search rules;
-      kept = c.poll_running.ensures.kept;
-    }
+          (search rules) (search rules) (search rules) (search rules) (search rules),
+      search rules,
+      c.poll_running.ensures.kept,
+    )

@@ -11,4 +11,4 @@ returns g c =
     let poll = c.poll_entries.ensures.polls in
     rw (← c.self.view_is)
     (answers g.F.Future g.K.Kind.GROWS c.self.inside.queue c.poll_entries.new.self c.poll_entries.result c.self.invariant c.args.cx.now c.poll_entries.new.cx
-    (record { gave = poll.gave; queue = record { set = poll.queue.set; room = poll.queue.room; holds = poll.queue.holds; covered = poll.queue.covered; kept = poll.queue.kept; pollable = poll.queue.pollable } }))
+    (record { gave = poll.gave; queue = record { set = poll.queue.set; room = poll.queue.room; holds = poll.queue.holds; covered = poll.queue.covered; kept = poll.queue.kept; pollable = poll.queue.pollable } }) c.poll_entries.ensures.numbered)

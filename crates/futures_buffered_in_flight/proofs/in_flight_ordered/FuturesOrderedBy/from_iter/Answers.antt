@@ -1,7 +1,7 @@
 use Rattle.std.proofs.Common.{rules, vec_len}
 use Rattle.futures_buffered_core.specs.Drawn.{items_of}
 use Rattle.futures_buffered_in_flight.proofs.FromIterLemmas.{fit_drawn, holds_in_turn}
-use Rattle.futures_buffered_in_flight.proofs.in_flight_ordered.FuturesOrderedBy.with_items.Goals as goal
+use Rattle.futures_buffered_in_flight.proofs.in_flight_ordered.FuturesOrderedBy.from_iter.Goals as goal
 
 pub push_in_turn-requires-clause-fit : goal.push_in_turn-requires-clause-fit
 push_in_turn-requires-clause-fit g c = fit_drawn (items_of g.I.IntoIterator g.I.IntoIter.Iterator c.args.iter) g.F.Future.can_poll c.in_ok-futures.futures.items c.requires.fit c.in_ok-futures.ensures.drawn
