@@ -34,8 +34,8 @@ returns-in-Poll-clause-reply c =
         c.args.cx.now,
         c.poll_with.new.cx,
         turns_less _ _
-        (λ b group left answer cx after it. gives_of (record { can_poll = λ _. ⊤; polled = λ _. PollsReadyAfter; goes_on = λ _. ⊥ }) _ (λ s t. t ≡ s) (stays b) group left answer cx after it)
-        _ _ _ _ _ _ _ poll.gave,
+            (λ b group left answer cx after it. gives_of (record { can_poll = λ _. ⊤; polled = λ _. PollsReadyAfter; goes_on = λ _. ⊥ }) _ (λ s t. t ≡ s) (stays b) group left answer cx after it)
+            _ _ _ _ _ _ _ poll.gave,
         poll.limit,
       ),
     )
