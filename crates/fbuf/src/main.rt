@@ -1,4 +1,4 @@
-//! `fbuf` answers scripts over the sets of futures_buffered, or runs threads that wake the slots of
+//! `fbuf` replies to scripts over the sets of futures_buffered, or runs threads that wake the slots of
 //! one set.
 //!
 //! [`fbuf_program::program_words`] is the program as a function of its words.

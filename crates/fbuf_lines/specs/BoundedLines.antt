@@ -1,4 +1,4 @@
--- What a command to a bounded set is answered, and what it leaves of it.
+-- The reply to a command to a bounded set, and what the command makes of the set.
 use Rattle.std.specs.Prelude.{◌≡◌, ℕ, ◌<◌, ◌≤◌, [], Option, ◌⊎◌}
 use Rattle.futures.specs.declared.task.Poll.{Poll as PollAnswer}
 use Rattle.futures_buffered_table.specs.declared.answer.Woke.{Woke}
@@ -22,7 +22,7 @@ ScriptBounded = Bounded ReadyAfter Standing
 abbrev pub new_standing : ℕ → Standing
 new_standing capacity = record { capacity = capacity; marked = [] }
 
--- no future, every place free, no slot marked
+-- no future is held, each slot is free, and no slot is marked
 abbrev pub new_bounded : ℕ → ℕ → ScriptBounded
 new_bounded capacity limit = record { slots = no_slots capacity; source = new_standing capacity; limit = limit }
 
@@ -30,7 +30,7 @@ new_bounded capacity limit = record { slots = no_slots capacity; source = new_st
 abbrev pub IsNewStanding : ℕ → Standing → Type 0
 IsNewStanding capacity standing = standing ≡ new_standing capacity
 
--- what a poll may make of a ready core; registering leaves the standing as it is
+-- what a poll may make of a ready core; a registration does not change its standing
 abbrev pub core_steps : SourceSteps Standing
 core_steps = record { registers = λ before after. after ≡ before; takes = Takes }
 
@@ -38,7 +38,7 @@ core_steps = record { registers = λ before after. after ≡ before; takes = Tak
 abbrev pub PollsSet : ScriptBounded → PollAnswer (Option ℕ) → ScriptBounded → Type 0
 PollsSet old answer new = PollGives (λ _. PollsReadyAfter) core_steps old answer new
 
--- one mark of a slot that is there
+-- one mark of a slot of the set
 pub record MarksSlotThere
     {F : Type 0}
     (old : Bounded F Standing)
@@ -51,7 +51,7 @@ pub record MarksSlotThere
   pub slots : new.slots ≡ old.slots
   pub limit : new.limit ≡ old.limit
 
--- the last line says that no other command stands
+-- what each command makes of the set; any other command is `bad`
 abbrev pub BoundedGives : ScriptBounded → Command → Reply → ScriptBounded → Type 0
 BoundedGives old (Push future) reply new =
     ((reply ≡ Done) × Pushes Marks old future new)

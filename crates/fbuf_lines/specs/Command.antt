@@ -25,7 +25,7 @@ command_word (Mark seat slot) = codes "mark"
 command_word (Go seat) = codes "go"
 command_word Step = codes "step"
 
--- its numbers, in the order in which they are written
+-- the numbers of a command, in the order in which it writes them
 abbrev pub numbers_of : Command → List ℕ
 numbers_of (Unordered capacity) = capacity ∷ []
 numbers_of (Ordered capacity) = capacity ∷ []
@@ -63,12 +63,12 @@ LineAsksFor line None = (command : Command) → IsWritable command → line ≢ 
 abbrev pub HasNoSpace : List ℕ → Type 0
 HasNoSpace word = list_any (λ byte. byte == 32) word ≡ false
 
--- what stands behind a word: nothing, or a space and the rest
+-- the text after a word: nothing, or a space and the rest
 abbrev pub rest_text : Option (Bor (List ℕ)) → List ℕ
 rest_text None = []
 rest_text (Some rest) = 32 ∷ rest.now
 
--- a digit stands first, and a zero only alone
+-- the text begins with a digit, which is 0 only in the text `0`
 pub record StartsAsNumber (text : List ℕ) : Type 0 where
   pub some : 0 < length text
   pub low : 48 ≤ slice_index text 0

@@ -1,4 +1,4 @@
--- What a command to a growing set is answered, and what it leaves of it.
+-- The reply to a command to a growing set, and what the command makes of the set.
 use Rattle.std.specs.Prelude.{◌≡◌, ◌⊎◌, ℕ, false, length, Option}
 use Rattle.futures.specs.declared.task.context.Context.{Context}
 use Rattle.futures.specs.declared.task.Poll.{Poll as PollAnswer}
@@ -26,12 +26,12 @@ PollsGrowingLine old answer new = (cx : Context) × (left : Context)
     (length old.groups.listed) false old.groups answer new.groups cx left
     × (new.limit ≡ old.limit)
 
--- one push into a growing set that can take more
+-- one push into a growing set that is not at its bound
 abbrev pub PushesGrowing : ScriptGrowing → ReadyAfter → ScriptGrowing → Type 0
 PushesGrowing old future new = (IsAtBound old.groups.listed → ⊥)
     × GrowingPushes Marks IsNewStanding FIRST_GROUP old future new
 
--- the last line says that no other command stands
+-- what each command makes of the set; any other command is `bad`
 abbrev pub GrowingGives : ScriptGrowing → Command → Reply → ScriptGrowing → Type 0
 GrowingGives old (Push future) reply new = (reply ≡ Done) × PushesGrowing old future new
 GrowingGives old Poll reply new =
@@ -39,8 +39,7 @@ GrowingGives old Poll reply new =
 GrowingGives old Len reply new = (reply ≡ Count (held_in_all old.groups.listed)) × (new ≡ old)
 GrowingGives old command reply new = (reply ≡ Bad) × (new ≡ old)
 
--- a command that may lack memory is a push where as many futures are held as a set may hold, or where the last group is
--- full
+-- an allocation may fail for a push, if the set holds as many futures as a set may hold, or if its last group is full
 abbrev pub GrowingMayLack : ScriptGrowing → Command → Type 0
 GrowingMayLack old (Push future) = (held_in_all old.groups.listed ≡ MAX_HELD) ⊎ (spare_places old.groups.listed ≡ 0)
 GrowingMayLack old command = ⊥

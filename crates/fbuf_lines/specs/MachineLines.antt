@@ -1,4 +1,4 @@
--- What a command to a machine of single steps is answered, and what it leaves of it.
+-- The reply to a command to a machine of single steps, and what the command makes of the machine.
 use Rattle.std.specs.Prelude.{◌≡◌, ◌⊎◌}
 use Rattle.futures_buffered_table.specs.declared.step.Step.{Step as StepOf}
 use Rattle.futures_buffered_table.specs.declared.step.Step.TheVariants as step
@@ -14,13 +14,13 @@ use Rattle.fbuf_lines.specs.declared.reply.Reply.TheVariants.{Stuck, Bad}
 abbrev pub RepliesToStep : Machine → StepOf → Reply → Machine → Type 0
 RepliesToStep old step reply new = (answer : StepReply) × (reply ≡ step_reply answer) × MakesStep old step new answer
 
--- the step was made, or it cannot be made and nothing changed
+-- the machine made the step; or the step cannot be made, and nothing changed
 abbrev pub StepGives : Machine → StepOf → Reply → Machine → Type 0
 StepGives old step reply new =
     (CanMake old step × RepliesToStep old step reply new)
     ⊎ ((CanMake old step → ⊥) × (reply ≡ Stuck) × (new ≡ old))
 
--- the last line says that no other command stands
+-- what each command makes of the machine; any other command is `bad`
 abbrev pub MachineGives : Machine → Command → Reply → Machine → Type 0
 MachineGives old (Mark seat slot) reply new = StepGives old (step.Mark seat slot) reply new
 MachineGives old (Go seat) reply new = StepGives old (step.Go seat) reply new

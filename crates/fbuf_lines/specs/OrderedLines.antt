@@ -1,4 +1,4 @@
--- What a command to an ordered queue is answered, and what it leaves of it.
+-- The reply to a command to an ordered queue, and what the command makes of the queue.
 use Rattle.std.specs.Prelude.{◌≡◌, ℕ, ◌≤◌, length, Option, ◌⊎◌}
 use Rattle.futures.specs.declared.task.Poll.{Poll as PollAnswer}
 use Rattle.futures_buffered_table.specs.declared.answer.Woke.{Woke}
@@ -16,11 +16,11 @@ use Rattle.fbuf_lines.specs.declared.command.Command.TheVariants.{Back, Front, W
 use Rattle.fbuf_lines.specs.declared.reply.Reply.{Reply}
 use Rattle.fbuf_lines.specs.declared.reply.Reply.TheVariants.{Done, Full, Count, Bad}
 
--- the ordered queue of a script: its set is such a set, and an output is a number
+-- the ordered queue of a script, over a bounded set of the script's futures; an output is a number
 abbrev pub ScriptOrdered : Type 0
 ScriptOrdered = OrderedBounded ReadyAfter ℕ Standing
 
--- a push into an ordered queue: the future is added, as `adds` says, or no slot is free
+-- a push into an ordered queue: the future was added, as `adds` says, or no slot is free
 abbrev pub QueuePushGives : (ScriptOrdered → ReadyAfter → ScriptOrdered → Type 0)
     → ScriptOrdered → ReadyAfter → Reply → ScriptOrdered → Type 0
 QueuePushGives adds old future reply new =
@@ -42,7 +42,7 @@ abbrev pub MarksQueue : ScriptOrdered → ℕ → Woke → ScriptOrdered → Typ
 MarksQueue old slot woke new =
     MarksSlotThere old.set slot woke new.set × (new.entries ≡ old.entries) × (new.room ≡ old.room)
 
--- the last line says that no other command stands
+-- what each command makes of the queue; any other command is `bad`
 abbrev pub QueueGives : ScriptOrdered → Command → Reply → ScriptOrdered → Type 0
 QueueGives old (Back future) reply new = BackGives old future reply new
 QueueGives old (Front future) reply new = FrontGives old future reply new
@@ -54,11 +54,11 @@ QueueGives old Poll reply new =
 QueueGives old Len reply new = (reply ≡ Count (length old.entries)) × (new ≡ old)
 QueueGives old command reply new = (reply ≡ Bad) × (new ≡ old)
 
--- a push may lack memory where a slot is free, and there are as many entries as slots or more
+-- an allocation may fail for a push if a slot is free, and there are at least as many entries as slots
 abbrev pub PushMayLack : ScriptOrdered → Type 0
 PushMayLack old = (QueueIsFull old → ⊥) × (slot_count old.set.slots ≤ length old.entries)
 
--- a command that may lack memory is such a push
+-- an allocation may fail for such a push alone
 abbrev pub QueueMayLack : ScriptOrdered → Command → Type 0
 QueueMayLack old (Back future) = PushMayLack old
 QueueMayLack old (Front future) = PushMayLack old

@@ -1,4 +1,4 @@
--- What marks, polls and steps are answered, and how a reply is written.
+-- The replies to marks, polls and steps, and how a reply is written.
 use Rattle.std.specs.Prelude.{ℕ, List, [], ◌∷◌, ◌++◌, Option, Some, None, codes}
 use Rattle.std.specs.Fmt.{decimal}
 use Rattle.futures.specs.declared.task.Poll.{Poll}

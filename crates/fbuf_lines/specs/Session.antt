@@ -1,4 +1,4 @@
--- What a line of a script is answered, and what it leaves of the target that was begun last.
+-- The reply to a line of a script, and what the line makes of the target that was begun last.
 use Rattle.std.specs.Prelude.{◌≡◌, ℕ, ◌<◌, ◌≤◌, List, Option, Some, MatchOption, ◌⊎◌}
 use Rattle.futures_buffered_table.specs.declared.answer.TheConstants.{MAX_CAPACITY}
 use Rattle.futures_buffered_table.specs.StepMachine.{Machine, IsNew}
@@ -17,18 +17,18 @@ use Rattle.fbuf_lines.specs.declared.reply.Reply.TheVariants.{Done, TooLarge, Ba
 use Rattle.fbuf_lines.specs.declared.session.Target.{Target}
 use Rattle.fbuf_lines.specs.declared.session.Target.TheVariants as target
 
--- how far a script has come: what was begun last, and the limit of the sets that are begun from now on, which is how
--- many names one poll of theirs takes at most
+-- how far a script has come: the target that was begun last, and how many ready slots one poll takes at most, in sets
+-- that are begun later
 pub record ScriptSession : Type 0 where
   pub target : Target
   pub limit : ℕ
 
--- nothing was begun yet, and no limit was chosen
+-- no target was begun yet, and no limit was chosen
 abbrev pub first_session : ScriptSession
 first_session = record { target = target.Nothing; limit = POLL_LIMIT }
 
--- a line that begins a target: `is_new` says of a capacity and a limit what the target then is. A capacity that is too
--- large begins nothing
+-- A line begins a target: `is_new` says what a new target of a capacity and a limit is. If the capacity is too large,
+-- nothing changes.
 abbrev pub Begins : (ℕ → ℕ → Target → Type 0) → ScriptSession → ℕ → Reply → ScriptSession → Type 0
 Begins is_new old capacity reply new =
     ((reply ≡ Done) × (capacity ≤ MAX_CAPACITY)
@@ -44,22 +44,22 @@ abbrev pub IsNewQueue : ℕ → ℕ → Target → Type 0
 IsNewQueue capacity limit new = (queue : ScriptOrdered)
     × IsNewBoundedQueue IsNewStanding capacity limit queue × (new ≡ target.Ordered queue)
 
--- an empty growing set, with one group of this capacity, or none where that is 0
+-- an empty growing set, with one group of this capacity, or without a group if the capacity is 0
 abbrev pub IsNewGrowingSet : ℕ → ℕ → Target → Type 0
 IsNewGrowingSet capacity limit new = (set : ScriptGrowing)
     × IsNewGrowing IsNewStanding capacity limit set × (new ≡ target.Growing set)
 
--- a machine with no step made, which has no limit
+-- a machine that has made no step; it has no limit
 abbrev pub IsNewMachine : ℕ → ℕ → Target → Type 0
 IsNewMachine capacity _ new = (machine : Machine) × IsNew capacity machine × (new ≡ target.Steps machine)
 
--- a line that sets the limit: what was begun before stays as it is, and 0 is no limit
+-- a line sets the limit, and does not change the target; 0 is no limit
 abbrev pub SetsLimit : ScriptSession → ℕ → Reply → ScriptSession → Type 0
 SetsLimit old limit reply new =
     ((reply ≡ Done) × (1 ≤ limit) × (new ≡ record old { limit = limit }))
     ⊎ ((reply ≡ Bad) × (limit ≡ 0) × (new ≡ old))
 
--- a command to what was begun last; before anything is begun none stands
+-- what a command makes of the target that was begun last; without a target each command is `bad`
 abbrev pub TargetGives : Target → Command → Reply → Target → Type 0
 TargetGives target.Nothing command reply new = (reply ≡ Bad) × (new ≡ target.Nothing)
 TargetGives (target.Unordered old) command reply new =
@@ -71,7 +71,7 @@ TargetGives (target.Growing old) command reply new =
 TargetGives (target.Steps old) command reply new =
     (machine : Machine) × MachineGives old command reply machine × (new ≡ target.Steps machine)
 
--- a command that begins something stands always, and one that sets a limit from 1 on
+-- what a command makes of a session: a target can be begun and a limit set at any time
 abbrev pub CommandGives : ScriptSession → Command → Reply → ScriptSession → Type 0
 CommandGives old (Unordered capacity) reply new = Begins IsNewSet old capacity reply new
 CommandGives old (Ordered capacity) reply new = Begins IsNewQueue old capacity reply new
@@ -80,7 +80,7 @@ CommandGives old (Steps capacity) reply new = Begins IsNewMachine old capacity r
 CommandGives old (Limit limit) reply new = SetsLimit old limit reply new
 CommandGives old command reply new = TargetGives old.target command reply new.target × (new.limit ≡ old.limit)
 
--- one line: what it asks for, or `bad`
+-- what one line makes of a session: the command that it asks for, or `bad`
 abbrev pub LineGives : ScriptSession → List ℕ → Reply → ScriptSession → Type 0
 LineGives old line reply new =
     (asked : Option Command)
@@ -88,8 +88,8 @@ LineGives old line reply new =
     × MatchOption asked ((reply ≡ Bad) × (new ≡ old))
     (λ command. CommandGives old command reply new)
 
--- a command that may lack memory: it begins something that is not too large, or it is one to a growing set or to an
--- ordered queue
+-- an allocation may fail for a command that begins a target which is not too large, and for some pushes into a growing
+-- set or an ordered queue
 abbrev pub MayLackMemory : Target → Command → Type 0
 MayLackMemory old (Unordered capacity) = capacity ≤ MAX_CAPACITY
 MayLackMemory old (Ordered capacity) = capacity ≤ MAX_CAPACITY
@@ -99,6 +99,6 @@ MayLackMemory (target.Growing old) command = GrowingMayLack old command
 MayLackMemory (target.Ordered old) command = QueueMayLack old command
 MayLackMemory old command = ⊥
 
--- a line that asks for such a command
+-- an allocation may fail for a line that asks for such a command
 abbrev pub LineMayLackMemory : ScriptSession → List ℕ → Type 0
 LineMayLackMemory old line = (command : Command) × LineAsksFor line (Some command) × MayLackMemory old.target command

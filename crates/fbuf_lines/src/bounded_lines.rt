@@ -15,7 +15,7 @@ use std::alloc::Global;
 /// A bounded set of the script's futures, over a ready core.
 pub type ScriptSet = FuturesUnorderedBounded<ReadyAfter, CoreSource>;
 
-// An empty set of this capacity.
+// Makes an empty set of this capacity.
 pub(crate) fn new_set(alloc: Global, capacity: usize, limit: usize) -> Result<ScriptSet, NewFault>
     requires { 1 ≤ limit }
     ensures ok { IfOk result (λ set.
@@ -27,7 +27,7 @@ pub(crate) fn new_set(alloc: Global, capacity: usize, limit: usize) -> Result<Sc
     FuturesUnorderedBounded::with_source_limit(alloc, source, limit)
 }
 
-// A command to a bounded set.
+// Carries out a command on a bounded set.
 pub(crate) fn set_reply(set: &mut ScriptSet, command: Command, cx: &mut Context<'_>) -> Reply
     ensures reply { BoundedGives set.old command result set.new }
     ensures kept { Keeps cx.old cx.new }

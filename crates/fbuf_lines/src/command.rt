@@ -7,7 +7,7 @@ ghost use Rattle.fbuf_lines.specs.Command.{rest_text, spaced_number};
 use crate::ready_after::ReadyAfter;
 use memchr::memchr;
 
-/// What a line asks for, whether that stands now or not.
+/// What a line asks for, whether or not it can be carried out now.
 #[derive(Clone, Copy, Debug, PartialEq, Eq)]
 pub enum Command {
     /// `unordered C`: begins a bounded set of this capacity.
@@ -18,19 +18,19 @@ pub enum Command {
     Growing(usize),
     /// `steps C`: begins a machine of single steps of this capacity.
     Steps(usize),
-    /// `limit L`: how many names one poll takes at most, of each set that is begun from now on.
+    /// `limit L`: sets how many ready slots one poll takes at most, in each set that is begun later.
     Limit(usize),
-    /// `push V K`: pushes the future that is pending K times and then V.
+    /// `push V K`: pushes the future that is pending K times, and then ready with V.
     Push(ReadyAfter),
-    /// `back V K`: adds such a future behind all others.
+    /// `back V K`: adds such a future after all others.
     Back(ReadyAfter),
     /// `front V K`: adds such a future before all others.
     Front(ReadyAfter),
     /// `wake I`: marks a slot.
     Wake(usize),
-    /// `poll`: one poll.
+    /// `poll`: polls once.
     Poll,
-    /// `len`: how many are held.
+    /// `len`: asks how many are held.
     Len,
     /// `mark S I`: a wake seat begins to wake a slot.
     Mark { seat: usize, slot: usize },
@@ -40,7 +40,7 @@ pub enum Command {
     Step,
 }
 
-// The text up to the first space, and the text behind it.
+// Returns the text before the first space, and the text after it.
 fn cut(text: &[u8]) -> (&[u8], Option<&[u8]>)
     ensures whole { text.now ≡ result.0.now ++ rest_text result.1 }
     ensures word { HasNoSpace result.0.now }
@@ -51,7 +51,7 @@ fn cut(text: &[u8]) -> (&[u8], Option<&[u8]>)
     }
 }
 
-// Whether a digit stands first, and a zero only alone.
+// Returns whether the text begins with a digit, which is 0 only in the text `0`.
 fn starts_as_number(text: &[u8]) -> bool
     ensures { IsTrue result ↔ StartsAsNumber text.now }
 {
@@ -62,8 +62,8 @@ fn starts_as_number(text: &[u8]) -> bool
     }
 }
 
-/// The number that the text writes: decimal digits with no leading zero, below 2^64. `None` at any
-/// other text. The time is that of the text's bytes; no memory is taken.
+/// Returns the number that the text writes: decimal digits without a leading zero, below 2^64. Returns
+/// `None` for any other text. Takes time in proportion to the text's bytes. Does not allocate.
 pub fn number(text: &[u8]) -> Option<u64>
     ensures some { IfSome result (λ n. text.now ≡ decimal n) }
     ensures none { IfNone result ((n : ℕ) → n < 2 ^ 64 → text.now ≢ decimal n) }
@@ -91,7 +91,7 @@ fn two(rest: Option<&[u8]>) -> Option<(u64, u64)>
     Some((number(first)?, number(second?)?))
 }
 
-// The command that a line with no space writes.
+// Returns the command that a line without a space writes.
 fn bare(word: &[u8]) -> Option<Command>
     requires { HasNoSpace word.now }
     ensures { LineAsksFor word.now result }
@@ -108,8 +108,8 @@ fn bare(word: &[u8]) -> Option<Command>
     None
 }
 
-/// The command that the line writes, in its one spelling; `None` if there is none. The time is that
-/// of the line's bytes; no memory is taken.
+/// Returns the command that the line writes, in its one spelling, or `None` if there is none. Takes
+/// time in proportion to the line's bytes. Does not allocate.
 pub fn parse(line: &[u8]) -> Option<Command>
     ensures { LineAsksFor line.now result }
 {

@@ -11,10 +11,10 @@ use futures_buffered_core::ready_source::CoreSource;
 use futures_buffered_unordered::futures_unordered::FuturesUnordered;
 use std::alloc::AllocError;
 
-/// A growing set of them, each group over a ready core.
+/// A growing set of the script's futures, each group over a ready core.
 pub type ScriptGrowing = FuturesUnordered<ReadyAfter, CoreSource>;
 
-// A command to a growing set. A push that is refused changes nothing.
+// Carries out a command on a growing set. A refused push changes nothing.
 pub(crate) fn growing_reply(
     set: &mut ScriptGrowing,
     command: Command,

@@ -4,10 +4,11 @@ ghost use Rattle.fbuf_lines.specs.Lines.{lines_of};
 
 use memchr::memchr;
 
-/// The first line, without its line feed, and the text behind it. `None` at the end of the text.
+/// Returns the first line, without its line feed, and the text after it. Returns `None` if the text is
+/// empty.
 ///
-/// A carriage return is a byte like any other. The time is that of the line's bytes; no memory is
-/// taken.
+/// A carriage return is a byte like any other. Takes time in proportion to the line's bytes. Does not
+/// allocate.
 pub fn first_line(text: &[u8]) -> Option<(&[u8], &[u8])>
     ensures end { IfNone result (text.now ≡ []) }
     ensures first { IfSome result (λ r. lines_of text.now ≡ r.0.now ∷ lines_of r.1.now) }

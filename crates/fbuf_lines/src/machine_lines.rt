@@ -5,7 +5,7 @@ use crate::command::Command;
 use crate::reply::Reply;
 use futures_buffered_core::ready_table::{Step, StepMachine};
 
-// A command to a machine of single steps.
+// Carries out a command on a machine of single steps.
 pub(crate) fn machine_reply(machine: &mut StepMachine, command: Command) -> Reply
     ensures { MachineGives machine.old command result machine.new }
 {

@@ -12,10 +12,10 @@ use futures_buffered_core::ready_source::CoreSource;
 use futures_buffered_sets::futures_ordered_bounded::FuturesOrderedBounded;
 use std::alloc::AllocError;
 
-/// An ordered queue of them, over a ready core.
+/// An ordered queue of the script's futures, over a ready core.
 pub type ScriptQueue = FuturesOrderedBounded<ReadyAfter, CoreSource>;
 
-// A future to the back of an ordered queue. One that is refused changes nothing.
+// Adds a future at the back of an ordered queue. A refused future changes nothing.
 fn back_reply(queue: &mut ScriptQueue, future: ReadyAfter) -> Result<Reply, AllocError>
     ensures reply { IfOk result (λ reply. BackGives queue.old future reply queue.new) }
     ensures memory { OnErr result (queue.new ≡ queue.old) }
@@ -30,7 +30,7 @@ fn back_reply(queue: &mut ScriptQueue, future: ReadyAfter) -> Result<Reply, Allo
     }
 }
 
-// The same, to its front.
+// Adds a future as `back_reply` does, at the front.
 fn front_reply(queue: &mut ScriptQueue, future: ReadyAfter) -> Result<Reply, AllocError>
     ensures reply { IfOk result (λ reply. FrontGives queue.old future reply queue.new) }
     ensures memory { OnErr result (queue.new ≡ queue.old) }
@@ -45,7 +45,7 @@ fn front_reply(queue: &mut ScriptQueue, future: ReadyAfter) -> Result<Reply, All
     }
 }
 
-// A command to an ordered queue.
+// Carries out a command on an ordered queue.
 pub(crate) fn queue_reply(
     queue: &mut ScriptQueue,
     command: Command,

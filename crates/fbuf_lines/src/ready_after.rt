@@ -6,15 +6,16 @@ use futures_buffered_core::ready_source::SlotHandle;
 use futures_buffered_sets::poll_one::PollOne;
 use futures_buffered_sets::slot_future::SlotFuture;
 
-/// Pending `pending` times, and then `value`. It keeps no waker and never wakes.
+/// A future that is pending `pending` times, and then ready with `value`. It keeps no waker and never
+/// wakes its task.
 #[derive(Clone, Copy, Debug, PartialEq, Eq)]
 pub struct ReadyAfter {
     pub value: u64,
     pub pending: u64,
 }
 
-/// Polls a `ReadyAfter`, and does nothing with the waker. A poll takes no memory, and the same time
-/// whatever the two numbers are.
+/// Polls a `ReadyAfter`, and does nothing with the waker. A poll does not allocate, and takes the same
+/// time whatever the two numbers are.
 #[derive(Clone, Copy, Debug)]
 pub struct PollReadyAfter;
 
@@ -36,7 +37,7 @@ impl<W: SlotHandle> PollOne<ReadyAfter, W> for PollReadyAfter {
     }
 }
 
-/// The same poll.
+/// Polls as `PollReadyAfter` does.
 impl<W: SlotHandle> SlotFuture<W> for ReadyAfter {
     type Output = u64;
 

@@ -1,4 +1,4 @@
-//! What a line of a script is answered.
+//! The reply to a line of a script.
 ghost use Rattle.std.specs.Prelude.{◌≡◌, ◌++◌, ◌+◌, ◌≤◌, length, vec_len, vec_capacity};
 ghost use Rattle.std.specs.Prelude.{OnOk, OnErr};
 ghost use Rattle.std.specs.Fmt.{decimal};
@@ -10,47 +10,46 @@ use futures_buffered_core::ready_table::StepReply;
 use itoa::Buffer;
 use std::alloc::AllocError;
 
-/// The answer to one line.
+/// The reply to one line.
 #[derive(Clone, Copy, Debug, PartialEq, Eq)]
 pub enum Reply {
-    /// `ok`: begun, pushed, or the limit is set.
+    /// `ok`: the target was begun, the future was pushed, or the limit was set.
     Done,
-    /// `full`: no free place; nothing changed.
+    /// `full`: no slot is free, and nothing changed.
     Full,
-    /// `large`: the capacity is too large; what was begun before stays.
+    /// `large`: the capacity is too large, and the target before stays.
     TooLarge,
-    /// `some V`: a poll's output.
+    /// `some V`: a poll returned this output.
     Output(u64),
-    /// `pending`: a poll without an output.
+    /// `pending`: a poll was pending.
     Pending,
-    /// `none`: nothing is held.
+    /// `none`: a poll returned `None`, since nothing is held.
     Ended,
     /// `fresh`: the slot was not marked.
     Fresh,
     /// `already`: the slot was marked.
     Already,
-    /// A number: how many are held.
+    /// A number: so many are held.
     Count(usize),
-    /// `more`: a step that does not end its call.
+    /// `more`: the step did not end its call.
     More,
-    /// `slot I`: a taking that ended with a slot.
+    /// `slot I`: a dequeue ended with this slot.
     Slot(usize),
-    /// `empty`: a taking that ended, since no slot was in the list.
+    /// `empty`: a dequeue ended, since no slot was in the list.
     Empty,
-    /// `pause`: a taking that ended, since a waker is about to write a link.
+    /// `pause`: a dequeue ended, since a waker is about to write a link.
     Pause,
-    /// `stuck`: a step that its seat cannot make now, or a seat or slot that is not there; nothing
-    /// changed.
+    /// `stuck`: the seat cannot make the step now, or there is no such seat or slot; nothing changed.
     Stuck,
-    /// `bad`: no line of the grammar, or one that does not stand now; nothing changed.
+    /// `bad`: the line is not in the grammar, or cannot be carried out now; nothing changed.
     Bad,
 }
 
 // Room for any reply: the longest is `some`, a space, a number of 20 digits and a line feed.
 const REPLY_ROOM: usize = 48;
 
-// Appends the word before the number, the number and a line feed, or nothing where there is no
-// memory.
+// Appends the word before the number, the number and a line feed. If an allocation fails, appends
+// nothing.
 fn append_number(text: &mut Vec<u8>, before: &[u8], number: u64) -> Result<(), AllocError>
     requires { length before.now ≤ 8 }
     ensures ok { OnOk result
@@ -79,7 +78,7 @@ fn append_reserved(text: &mut Vec<u8>, piece: &[u8])
 impl Reply {
     ghost use Rattle.fbuf_lines.specs.Reply.{woke_reply, poll_reply, step_reply};
 
-    /// What a mark is answered. Takes no memory.
+    /// Returns the reply to a mark. Does not allocate.
     pub fn of_woke(woke: Woke) -> Reply
         ensures { result ≡ woke_reply woke }
     {
@@ -89,7 +88,7 @@ impl Reply {
         }
     }
 
-    /// What a poll is answered. Takes no memory.
+    /// Returns the reply to a poll. Does not allocate.
     pub fn of_poll(polled: Poll<Option<u64>>) -> Reply
         ensures { result ≡ poll_reply polled }
     {
@@ -100,7 +99,7 @@ impl Reply {
         }
     }
 
-    /// What a step is answered. Takes no memory.
+    /// Returns the reply to a step. Does not allocate.
     pub fn of_step(reply: StepReply) -> Reply
         ensures { result ≡ step_reply reply }
     {
@@ -113,8 +112,8 @@ impl Reply {
         }
     }
 
-    /// Appends the reply's line, of at most 26 bytes, to the text. It takes memory where the text
-    /// has no room left, and `Err` says that this was refused.
+    /// Appends the reply's line, of at most 26 bytes, to the text. Allocates if the text has no room
+    /// left. If that fails, returns `Err` and appends nothing.
     pub fn append_to(self, text: &mut Vec<u8>) -> Result<(), AllocError>
         ensures ok { OnOk result (text.new.items ≡ text.old.items ++ reply_line self) }
         ensures err { OnErr result (text.new.items ≡ text.old.items) }

@@ -20,23 +20,23 @@ use futures_buffered_unordered::futures_unordered::FuturesUnordered;
 use std::alloc::{AllocError, Global};
 use std::marker::Model;
 
-/// What was begun last.
+/// The target that was begun last.
 #[derive(Drop)]
 pub enum Target {
-    /// No line began anything yet.
+    /// No line has begun a target yet.
     Nothing,
-    /// `unordered C` did.
+    /// `unordered C` began this set.
     Unordered(ScriptSet),
-    /// `ordered C` did.
+    /// `ordered C` began this queue.
     Ordered(ScriptQueue),
-    /// `growing C` did.
+    /// `growing C` began this set.
     Growing(ScriptGrowing),
-    /// `steps C` did.
+    /// `steps C` began this machine.
     Steps(StepMachine),
 }
 
-/// How far a script has come: what it began last, and how many names one poll takes at most, of the
-/// sets that it begins from now on.
+/// How far a script has come: the target that it began last, and how many ready slots one poll takes
+/// at most, in sets that it begins later.
 #[derive(Drop)]
 pub struct Session {
     target: Target,
@@ -55,7 +55,7 @@ impl Model for Session {
 }
 
 impl Session {
-    /// Nothing was begun yet, and no limit was chosen. Takes no memory.
+    /// Makes a session without a target, with the usual limit. Does not allocate.
     pub fn new() -> Session
         ensures { result ≡ first_session }
     {
@@ -65,15 +65,16 @@ impl Session {
         }
     }
 
-    /// Answers one line.
+    /// Carries out one line, and returns the reply to it.
     ///
-    /// The time is that of the line's bytes and of the one call that it asks for. A line that
-    /// begins a target takes time and memory in its capacity, and the drop of the one before it
-    /// takes time in that one's. A push that makes a group of a growing set takes time and memory
-    /// in that group's capacity, and one that makes an ordered queue longer than its capacity and
-    /// than ever before may take memory in its length; the other lines take no memory. `Err` says
-    /// that the memory of a new target was refused, or a push into a growing set or into a queue
-    /// that is not full.
+    /// Returns `Err`, and changes nothing, if an allocation fails: for a new target, or for a push
+    /// into a growing set or into a queue that is not full.
+    ///
+    /// A line that begins a target allocates in proportion to its capacity, a push that makes a group
+    /// in proportion to that group's, and a push that makes a queue longer than its capacity, and than
+    /// ever before, in proportion to its length. No other line allocates. Takes the time of the line's
+    /// bytes, of these allocations, of the call that the line asks for, and of the drop of a replaced
+    /// target.
     pub fn answer(
         &mut self,
         alloc: Global,
@@ -96,7 +97,7 @@ impl Session {
         }
     }
 
-    // What was there before is dropped, unless the new one is refused.
+    // Replaces the target by a new set. If that is refused, the target before stays.
     fn begin_unordered(&mut self, alloc: Global, capacity: usize) -> Result<Reply, AllocError>
         ensures reply { IfOk result (λ reply. Begins IsNewSet self.old capacity reply self.new) }
         ensures memory { OnErr result (self.new ≡ self.old) }
@@ -112,7 +113,7 @@ impl Session {
         }
     }
 
-    // The same, of an ordered queue.
+    // Begins an ordered queue, as `begin_unordered` begins a set.
     fn begin_ordered(&mut self, alloc: Global, capacity: usize) -> Result<Reply, AllocError>
         ensures reply { IfOk result (λ reply. Begins IsNewQueue self.old capacity reply self.new) }
         ensures memory { OnErr result (self.new ≡ self.old) }
@@ -128,7 +129,7 @@ impl Session {
         }
     }
 
-    // The same, of a growing set.
+    // Begins a growing set, as `begin_unordered` begins a set.
     fn begin_growing(&mut self, alloc: Global, capacity: usize) -> Result<Reply, AllocError>
         ensures reply { IfOk result (λ reply. Begins IsNewGrowingSet self.old capacity reply self.new) }
         ensures memory { OnErr result (self.new ≡ self.old) }
@@ -144,7 +145,7 @@ impl Session {
         }
     }
 
-    // The same, of a machine.
+    // Begins a machine, as `begin_unordered` begins a set.
     fn begin_steps(&mut self, alloc: Global, capacity: usize) -> Result<Reply, AllocError>
         ensures reply { IfOk result (λ reply. Begins IsNewMachine self.old capacity reply self.new) }
         ensures memory { OnErr result (self.new ≡ self.old) }
@@ -160,7 +161,7 @@ impl Session {
         }
     }
 
-    // What was begun before keeps its own limit.
+    // Sets the limit of sets that are begun later. The target keeps its own.
     fn set_limit(&mut self, limit: usize) -> Reply
         ensures { SetsLimit self.old limit result self.new }
     {

@@ -1,4 +1,4 @@
--- The replies to a script, line by line, and how much of them a writer was given.
+-- The replies to a script, line by line, and how much of them was written.
 use Rattle.std.specs.Prelude.{◌≡◌, ℕ, List, [], ◌∷◌, ◌++◌, Option, take}
 use Rattle.std.specs.List.{flat_map}
 use Rattle.std.specs.Io.KnownBytes.{Appends}
@@ -7,7 +7,7 @@ use Rattle.fbuf_lines.specs.Reply.{reply_line}
 use Rattle.fbuf_lines.specs.Session.{LineGives, ScriptSession, first_session}
 use Rattle.fbuf_lines.specs.declared.reply.Reply.{Reply}
 
--- one reply for each line, each to what the lines before it left
+-- one reply for each line, each of the session that the lines before it left
 abbrev pub LinesGive : ScriptSession → List (List ℕ) → List Reply → ScriptSession → Type 0
 LinesGive old [] [] new = new ≡ old
 LinesGive old (line ∷ lines) (reply ∷ replies) new =
@@ -15,7 +15,7 @@ LinesGive old (line ∷ lines) (reply ∷ replies) new =
 LinesGive old [] (reply ∷ replies) new = ⊥
 LinesGive old (line ∷ lines) [] new = ⊥
 
--- a text is the lines of the replies to these lines, where nothing was begun before
+-- a text is the replies to these lines, from a new session on
 pub record IsReplyTo (lines : List (List ℕ)) (text : List ℕ) : Type 0 where
   pub replies : List Reply
   pub last : ScriptSession
@@ -28,7 +28,7 @@ pub record AppendsReplies (bytes : List ℕ) (old new : Option (List ℕ)) : Typ
   pub replied : IsReplyTo (lines_of bytes) text
   pub appended : Appends old new text
 
--- the replies to some lines from the first on were appended, but not to all
+-- the replies to some first lines were appended, but not to all
 pub record AppendsFirstReplies (bytes : List ℕ) (old new : Option (List ℕ)) : Type 0 where
   pub before : List (List ℕ)
   pub line : List ℕ
@@ -38,7 +38,7 @@ pub record AppendsFirstReplies (bytes : List ℕ) (old new : Option (List ℕ)) 
   pub replied : IsReplyTo before text
   pub appended : Appends old new text
 
--- some bytes of the replies to some lines were appended, each from the first on
+-- a beginning of the replies to some first lines was appended
 pub record AppendsPartOfReplies (bytes : List ℕ) (old new : Option (List ℕ)) : Type 0 where
   pub before : List (List ℕ)
   pub after : List (List ℕ)

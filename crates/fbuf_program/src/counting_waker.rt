@@ -6,28 +6,27 @@ use std::marker::Model;
 use std::sync::atomic::AtomicU64;
 use std::sync::atomic::Ordering::SeqCst;
 
-/// How often a slot was woken, for the future that stands there.
+/// How often a slot was woken, for the future that it holds.
 #[derive(Drop)]
 pub struct WakeCount {
     wakes: AtomicU64,
 }
 
 impl WakeCount {
-    /// No wake is counted.
+    /// Makes a count of no wakes.
     pub fn new() -> WakeCount {
         WakeCount {
             wakes: AtomicU64::new(0),
         }
     }
 
-    /// The wakes that are counted, in whichever thread. The last one may be under way.
+    /// Returns how many wakes were counted, in any thread. The last wake may be under way.
     pub fn wakes(&self) -> u64 {
         self.wakes.load(SeqCst)
     }
 }
 
-/// Wakes that were made: as many as its value says. They come from a waker that made them, or from others that are
-/// added up.
+/// Wakes that were made, as many as its value says. A waker that made wakes returns it, or it is the sum of others.
 #[derive(Drop)]
 pub struct MadeWakes {
     wakes: u64,
@@ -42,14 +41,14 @@ impl Model for MadeWakes {
 }
 
 impl MadeWakes {
-    /// No wake.
+    /// Returns no wakes.
     pub fn none() -> MadeWakes
         ensures { result ≡ 0 }
     {
         MadeWakes { wakes: 0 }
     }
 
-    /// These and others, in one: at most as many as a `u64` can tell.
+    /// Returns these wakes and the others together, at most as many as a `u64` can count.
     pub fn and(self, others: MadeWakes) -> MadeWakes
         ensures { self + others < 2 ^ 64 → result ≡ self + others }
     {
@@ -58,7 +57,7 @@ impl MadeWakes {
         }
     }
 
-    /// How many they are.
+    /// Returns how many wakes these are.
     pub fn count(&self) -> u64
         ensures { result ≡ self.now }
     {
@@ -66,7 +65,7 @@ impl MadeWakes {
     }
 }
 
-/// A waker that counts each wake, and then makes it. Its value is how many it has made.
+/// A waker that counts each wake, and then makes it. Its value is how many wakes it has made.
 #[derive(Drop)]
 pub struct CountingWaker<'a, W> {
     waker: W,
@@ -83,7 +82,7 @@ impl<'a, W> Model for CountingWaker<'a, W> {
 }
 
 impl<'a, W: SlotWaker + Drop> CountingWaker<'a, W> {
-    /// Has made no wake.
+    /// Makes a counting waker that has made no wake.
     pub fn new(waker: W, count: &'a WakeCount) -> CountingWaker<'a, W>
         ensures { result ≡ 0 }
     {
@@ -94,7 +93,7 @@ impl<'a, W: SlotWaker + Drop> CountingWaker<'a, W> {
         }
     }
 
-    /// Adds one to the count, and then wakes the slot. It waits for nobody, and takes no memory.
+    /// Adds one to the count, and then wakes the slot. Waits for no thread, and does not allocate.
     pub fn wake(&mut self)
         requires { self.old + 1 < 2 ^ 64 }
         ensures { self.new ≡ self.old + 1 }
@@ -104,7 +103,7 @@ impl<'a, W: SlotWaker + Drop> CountingWaker<'a, W> {
         self.made += 1;
     }
 
-    /// The wakes that it made.
+    /// Returns the wakes that it made.
     pub fn made(self) -> MadeWakes
         ensures { result ≡ self.entry }
     {

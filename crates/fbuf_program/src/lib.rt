@@ -1,5 +1,5 @@
-//! What the program `fbuf` does for its words: it answers a script that it reads, or runs threads
-//! that wake the slots of a set.
+//! What the program `fbuf` does for its words: it reads a script and writes the replies to it, or runs
+//! threads that wake the slots of a set.
 //!
 //! In the order in which to read them:
 //!

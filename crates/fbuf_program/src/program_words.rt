@@ -95,8 +95,8 @@ enum Call {
     Threads { threads: usize, wakes: usize },
 }
 
-// What the words ask for, the program's name first; `None` where they ask for nothing that there
-// is.
+// Returns what the words ask for, of which the first is the program's name, or `None` if they are no
+// call.
 fn call_of(mut words: Args) -> Option<Call>
     ensures { WordsAskFor (map string_bytes (into_iter_items words)) result }
 {
@@ -114,7 +114,7 @@ fn call_of(mut words: Args) -> Option<Call>
     None
 }
 
-// A number from 1 to `most`.
+// Returns the number that the word writes, if it is from 1 to `most`.
 fn up_to(word: &[u8], most: usize) -> Option<usize>
     ensures some { IfSome result (λ n. (1 ≤ n) × (n ≤ most) × (word.now ≡ decimal n)) }
     ensures none { IfNone result ((n : ℕ) → 1 ≤ n → n ≤ most → word.now ≢ decimal n) }
@@ -126,16 +126,18 @@ fn up_to(word: &[u8], most: usize) -> Option<usize>
     Some(n)
 }
 
-/// Does what the words of a call ask for, and answers the exit status.
+/// Does what the words of a call ask for, and returns the exit status.
 ///
-/// `words` are those of the program's call, its name first, as `std::env::args` gives them; an
-/// error other than the want of memory says that a word was no text. With no word after the name,
-/// the script on `input` is answered on `output`; `threads N M` runs N threads, each of which wakes
-/// a slot M times, and writes a line. Status 0, or 1 with a line on `errors` where memory, a
-/// thread, a read or a write failed. Any other words: the usage text on `errors`, and status 2. A
-/// fault in writing to `errors` changes nothing.
+/// `words` are the words of the program's call, first its name, as `std::env::args` returns them. An
+/// error there, except of a failed allocation, says that a word was no text.
 ///
-/// Time and memory are those of the script or of the run of threads.
+/// - Without a word after the name, writes the replies to the script on `input` to `output`.
+/// - `threads N M` runs N threads, each of which wakes a slot M times, and writes a line.
+/// - For any other words, writes the usage text to `errors`, and returns 2.
+///
+/// Returns 0 if that succeeds, and 1 with a line on `errors` if an allocation, the start of a thread, a
+/// read or a write failed. A failed write to `errors` changes nothing. Takes the time, and allocates
+/// the memory, of the script or of the run of threads.
 pub fn run_words<T, R, W, E>(
     rt: &T,
     words: io::Result<Args>,
@@ -174,7 +176,7 @@ where
     }
 }
 
-// Does what the words ask for.
+// Carries out the call.
 fn do_call<T, R, W>(
     rt: &T,
     words: Args,
@@ -219,7 +221,7 @@ where
     Ok(threads_run(*rt, rt.alloc(), threads, wakes, OpenGate, output)?)
 }
 
-// Answers the script in one poll of a task of its own, which nothing wakes.
+// Replies to the script in one poll of a task of its own, which nothing wakes.
 fn answer_script<T, R, W>(
     rt: &T,
     input: &mut Watched<R>,
@@ -246,7 +248,7 @@ where
     }
 }
 
-// Why something was not begun: memory, or another fault.
+// Returns the fault of a call that did not begin: a failed allocation, or `other`.
 fn start_fault(error: &io::Error, other: Fault) -> Fault
     ensures memory { error_kind error.now ≡ OutOfMemory → result ≡ Fault.Memory }
     ensures other { error_kind error.now ≢ OutOfMemory → result ≡ other }

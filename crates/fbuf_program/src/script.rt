@@ -17,34 +17,34 @@ use std::alloc::{AllocError, Global};
 use std::io::{Read, Write};
 use thiserror::Error;
 
-/// Why a script was not answered to its end.
+/// Why a script did not get all its replies.
 #[derive(Clone, Copy, Debug, PartialEq, Eq, Error)]
 pub enum ScriptFault {
-    /// A read failed: nothing was written.
+    /// A read failed, and nothing was written.
     #[error("read failed")]
     Read,
-    /// A write failed or took nothing: a beginning of the replies was written.
+    /// A write failed or wrote no byte: a beginning of the replies was written.
     #[error("write failed")]
     Write,
-    /// Memory was refused: the replies to the lines before were written, or nothing if the reading
-    /// lacked it.
+    /// An allocation failed: the replies to the lines before were written, or nothing if it failed in a
+    /// read.
     #[error("out of memory")]
     Memory,
 }
 
-// How many bytes one read asks for.
+// How many bytes one read asks for, at most.
 const READ_SIZE: usize = 4096;
 
-// Replies are written once they have so many bytes.
+// Replies are written once they have this many bytes.
 const WRITE_SIZE: usize = 8192;
 
-/// Answers a script: reads it to the end, and writes one line for each of its lines.
+/// Reads a script to its end, and writes one line of reply for each of its lines.
 ///
-/// `cx` is the poll of a task in which the futures are polled; they leave no waker there. The error
-/// of a read or a write ends the script, of whatever kind it is, and no call is made again.
+/// The futures are polled in the task of `cx`, and leave no waker there. An error of a read or a write
+/// of any kind ends the script, and no call is made again. Does not flush.
 ///
-/// It keeps the whole input in memory, replies until they are 8192 bytes, and what the target begun
-/// last holds. The time is that of the input's bytes and of the targets' calls. It does not flush.
+/// Keeps in memory the whole input, up to 8,192 bytes of replies, and the target that was begun last.
+/// Takes time in proportion to the input's bytes, and the time of the targets' calls.
 pub fn script<R: Read + Drop, W: Write + Drop>(
     alloc: Global,
     cx: &mut Context<'_>,
@@ -97,7 +97,7 @@ fn read_to_end<R: Read + Drop>(
     unreachable!()
 }
 
-// Answers each line on a session where nothing is begun. What is not yet written stands in `replies`.
+// Carries out each line on a new session. Replies that are not written yet are in `replies`.
 fn answer_all<W: Write + Drop>(
     alloc: Global,
     cx: &mut Context<'_>,
@@ -135,7 +135,7 @@ fn answer_all<W: Write + Drop>(
     write_all(output, replies)
 }
 
-// Answers one line, and appends the reply. Where there is no memory for either, the text stays.
+// Carries out one line, and appends the reply. If an allocation fails, the text does not change.
 fn append_reply(
     alloc: Global,
     session: &mut Session,

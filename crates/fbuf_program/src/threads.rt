@@ -43,13 +43,13 @@ const _: () = prove!(MAX_WAKES == 1000000);
 /// Why a run did not print its line, or may not have printed all of it.
 #[derive(Clone, Copy, Debug, PartialEq, Eq, Error)]
 pub enum ThreadsFault {
-    /// Memory was refused, or a future left no waker: nothing was written.
+    /// An allocation failed, or a future left no waker; nothing was written.
     #[error("out of memory")]
     Memory,
-    /// A thread, or the run itself, could not be started: nothing was written.
+    /// A thread, or the run itself, could not be started; nothing was written.
     #[error("thread failed")]
     Thread,
-    /// A write failed: a beginning of the line was written.
+    /// A write failed; a beginning of the line was written.
     #[error("write failed")]
     Write,
 }
@@ -77,7 +77,7 @@ impl<T: Drop> From<AllocFailed<T>> for ThreadsFault {
 
 /// What a thread passes before and after each of its wakes.
 pub trait Gate {
-    // The wakes of a thread at which it may be passed.
+    // At which wakes a thread may pass the gate.
     ghost opens: { Self → ℕ → ℕ → Type 0 } = { λ _ _ _. ⊤ };
 
     fn before(&self, thread: usize, wake: usize)
@@ -104,7 +104,7 @@ struct Seat {
     waker: Mutex<Option<SharedWaker>>,
 }
 
-// Answers its number once its seat has counted all wakes.
+// A future that is ready with its number once its seat has counted all wakes.
 #[derive(Drop)]
 struct AllWakes<R> {
     rt: R,
@@ -134,7 +134,7 @@ impl<R: Wait + Drop> SlotFuture<SharedWaker> for AllWakes<R> {
 
 type Set<R> = FuturesUnorderedBounded<AllWakes<R>, SharedReady>;
 
-// What the futures of a set answer, as a stream of numbers.
+// The outputs of the futures of a set, as a stream of numbers.
 #[derive(Drop)]
 struct Numbers<R: Wait + Drop> {
     set: Set<R>,
@@ -152,7 +152,7 @@ impl<R: Wait + Drop> Stream for Numbers<R> {
     }
 }
 
-// One thread's wakes.
+// Makes the wakes of one thread.
 fn wake_slot<G: Gate>(
     gate: &G,
     thread: usize,
@@ -172,7 +172,7 @@ fn wake_slot<G: Gate>(
     waker.made()
 }
 
-// A seat for each future, in order. The set then holds a future of each number below n.
+// Makes a seat for each future, in order. The set then holds a future of each number below n.
 fn seated<R: Wait + Clone + Drop>(
     rt: &R,
     alloc: Global,
@@ -208,7 +208,7 @@ fn seated<R: Wait + Clone + Drop>(
     Ok(seats)
 }
 
-// Starts a thread for each seat. Those that did start are in `started`, also at a fault.
+// Starts a thread for each seat. The threads that did start are in `started`, also at a fault.
 fn start<R, G>(
     rt: R,
     m: usize,
@@ -255,7 +255,7 @@ fn new_set<R: Wait + Drop>(alloc: Global, n: usize) -> Result<Set<R>, ThreadsFau
     }
 }
 
-// Why a task of the run could not be begun.
+// Returns why a task of the run could not be begun.
 fn fault_of(error: io::Error) -> ThreadsFault
     ensures memory { error_kind error ≡ OutOfMemory → result ≡ ThreadsFault.Memory }
     ensures other { error_kind error ≢ OutOfMemory → result ≡ ThreadsFault.Thread }
@@ -266,8 +266,8 @@ fn fault_of(error: io::Error) -> ThreadsFault
     }
 }
 
-// Where no future is done, one poll names each, and each keeps its waker. Else it answers what the
-// first one gave.
+// Polls the set once. If no future is done, the poll reaches each future, which keeps its waker.
+// Otherwise returns the first output.
 fn poll_once<R: Wait + RandomSource + AllocGlobal + Drop>(
     rt: &R,
     set: &mut Set<R>,
@@ -288,7 +288,7 @@ fn poll_once<R: Wait + RandomSource + AllocGlobal + Drop>(
     }
 }
 
-// What the futures answer until the set holds none.
+// Returns the outputs of all futures of the set.
 fn outputs_of<R: Wait + RandomSource + AllocGlobal + Drop>(
     rt: &R,
     alloc: Global,
@@ -304,7 +304,7 @@ fn outputs_of<R: Wait + RandomSource + AllocGlobal + Drop>(
     }
 }
 
-// Starts the threads, and answers what the futures give until the set holds none.
+// Starts the threads, and returns the outputs of all futures of the set.
 fn run_started<R, G>(
     rt: R,
     alloc: Global,
@@ -328,7 +328,7 @@ where
     outputs_of(&rt, alloc, set)
 }
 
-// All outputs in rising order: those of the threads, and that of the first poll if there was one.
+// Returns all outputs in rising order: the outputs after the first poll, and its own, if any.
 fn in_rising_order(outputs: Vec<usize>, first: Option<usize>) -> Result<Vec<usize>, ThreadsFault>
     ensures all { IfOk result (λ all. (k : ℕ) → times_in all.items k
         ≡ times_in outputs.items k + times_in (option_to_list first) k) }
@@ -343,7 +343,7 @@ fn in_rising_order(outputs: Vec<usize>, first: Option<usize>) -> Result<Vec<usiz
     Ok(all)
 }
 
-// Runs the threads to their end, and answers what the futures gave and which wakes the threads made.
+// Runs the threads to their end, and returns the outputs and the wakes that the threads made.
 fn outputs_after_all<R, G>(
     rt: R,
     alloc: Global,
@@ -389,14 +389,13 @@ fn write_line<W: io::Write>(
     Ok(())
 }
 
-/// Holds `n` futures in a set, and starts as many threads. Thread i adds one to the counter of
-/// future i and wakes its slot, `m` times, and passes the gate before and after each of these
-/// wakes. Future i answers i once its counter is `m`. The line that is written has the numbers that
-/// were answered, in rising order, and is flushed. With `m` 0 a run of some threads fails with
-/// `Memory`: its futures are done before they leave a waker.
+/// Holds `n` futures in a set, and starts as many threads. Thread i adds one to the counter of future i
+/// and wakes its slot, `m` times, and passes the gate before and after each of these wakes. Future i is
+/// ready with i once its counter is `m`. Writes a line with the outputs in rising order, and flushes it.
+/// If `m` is 0 and `n` is not, fails with `Memory`: the futures are done before they leave a waker.
 ///
-/// Each thread that was started has ended when this returns, also at a fault. The memory is that of
-/// `n` threads, slots and counters. A wake waits for nobody.
+/// Each thread that was started has ended when the call returns, also at a fault. Allocates for `n`
+/// threads, slots and counters. A wake waits for no thread.
 pub fn threads_run<R, G, W>(
     rt: R,
     alloc: Global,

@@ -5,7 +5,7 @@ use crate::counting_waker::MadeWakes;
 use std::marker::Model;
 use std::thread::{self, Promise, PromisedHandle, Threads};
 
-// So many wakes are what a thread promises.
+// The promise of a thread to make this many wakes.
 #[derive(Clone, Copy)]
 struct Makes(usize);
 
@@ -15,7 +15,7 @@ impl Promise<MadeWakes> for Makes {
     ghost kept_by = { λ promise made. made ≡ promise.0 };
 }
 
-/// A thread that makes as many wakes as its value says. It is not `Drop`: whoever has one has to join it.
+/// A thread that makes as many wakes as its value says. It is not `Drop`, so its owner has to join it.
 pub struct WakingThread {
     handle: PromisedHandle<MadeWakes, Makes>,
 }
@@ -29,8 +29,8 @@ impl Model for WakingThread {
 }
 
 impl WakingThread {
-    /// A thread that calls the closure, which makes so many wakes. `None` where no thread can be made: the closure is
-    /// dropped.
+    /// Starts a thread that calls the closure, which makes this many wakes. If no thread can be started, returns
+    /// `None` and drops the closure.
     pub fn start<R, F>(rt: &R, wakes: usize, run: F) -> Option<WakingThread>
     where
         R: Threads,
@@ -45,7 +45,7 @@ impl WakingThread {
         }
     }
 
-    /// Waits until the thread has ended, and gives the wakes that it made.
+    /// Waits until the thread has ended, and returns the wakes that it made.
     pub fn join<R: Threads>(self, rt: &R) -> MadeWakes
         ensures { result ≡ self }
     {

@@ -8,7 +8,8 @@ use std::io;
 use std::io::{Read, Write};
 use std::marker::Model;
 
-/// Passes reads, writes and flushes on to what it wraps, and remembers whether one failed.
+/// Passes reads, writes and flushes on to the value that it wraps, and remembers whether one failed. No
+/// call of its own allocates.
 #[derive(Drop)]
 pub struct Watched<T: Drop> {
     inner: T,
@@ -24,7 +25,7 @@ impl<T: Drop> Model for Watched<T> {
 }
 
 impl<T: Drop> Watched<T> {
-    /// Nothing has failed yet. No memory is taken, here and in the other calls.
+    /// Wraps a value. No call has failed yet.
     pub fn new(inner: T) -> Self
         ensures { result ≡ record { inner = inner; failed = false } }
     {
@@ -34,7 +35,7 @@ impl<T: Drop> Watched<T> {
         }
     }
 
-    /// What was wrapped.
+    /// Returns the wrapped value.
     pub fn into_inner(self) -> T
         ensures { result ≡ self.inner }
     {
@@ -42,7 +43,7 @@ impl<T: Drop> Watched<T> {
         inner
     }
 
-    /// Whether a read, a write or a flush failed; a write that took nothing of some bytes counts.
+    /// Returns whether a read, a write or a flush failed. A write of some bytes that wrote none counts.
     pub fn failed(&self) -> bool
         ensures { result ≡ self.now.failed }
     {
