@@ -10,11 +10,11 @@ use Rattle.futures.specs.Task.{Covers, Keeps, Lasting}
 use Rattle.futures.specs.declared.task.context.Context.{Context}
 use Rattle.futures.specs.declared.task.Poll.{Poll}
 use Rattle.futures.specs.declared.task.Poll.TheVariants.{Ready, Pending}
-use Rattle.futures_buffered_core.specs.ReadySource.{SourceSteps, WaitsAlike}
-use Rattle.futures_buffered_core.specs.SlotMap.{Slots}
+use Rattle.futures_buffered_core.specs.ReadySource.{WaitsAlike}
 use Rattle.futures_buffered_table.specs.declared.answer.Taken.{Taken}
-use Rattle.futures_buffered_unordered.specs.FuturesUnorderedBounded.{Asks, Bounded, held_in}
+use Rattle.futures_buffered_unordered.specs.FuturesUnorderedBounded.{Bounded, held_in}
 use Rattle.futures_buffered_unordered.specs.Groups.{Groups, next_place}
+use Rattle.futures_buffered_unordered.specs.PollsBounded.{PollOneOf, ReadySourceOf, RegistersAndTakes}
 use Rattle.futures_buffered_unordered.proofs.GroupsStepLemmas.{All-removed, from_none}
 use Rattle.futures_buffered_unordered.specs.FuturesUnordered.{EachCovered}
 use Rattle.futures_buffered_unordered.specs.FuturesUnorderedInvariant.{IsGroup, AllWaitAlike, KeepsGroups, SameKind, KeepsGroup}
@@ -51,15 +51,15 @@ module _ {S : Type 0} (needs : S → ℕ → Type 0) where
   covers_alike : (cx : Context) (a b : S) → WaitsAlike needs a b → Covers cx (needs b) → Covers cx (needs a)
   covers_alike cx a b w h = (h.0, λ n x. h.1 n ((w n).0 x))
 
-module _ {F A S : Type 0} (needs : S → ℕ → Type 0) (polled : ℕ → F → Poll A → F → Type 0) (steps : SourceSteps S)
-    (register_waits : (old new : S) → steps.registers old new → WaitsAlike needs old new) (take_waits : (old : S) (taken : Taken) (new : S) → steps.takes old taken new → WaitsAlike needs old new) where
-  alike_taken : (given : List Taken) (old new : S) → FoldsTo steps.takes old given new → WaitsAlike needs old new
-  alike_taken [] old new h = subst (WaitsAlike needs old) h (alike_self needs old)
-  alike_taken (taken ∷ given) old new h = alike_on needs old h.0 new (take_waits old taken h.0 h.1) (alike_taken given h.0 new h.2)
+module _ {R F W A S : Type 0} (rule : PollOneOf R F W A) (source : ReadySourceOf S W)
+    (register_waits : (old new : S) → source.steps.registers old new → WaitsAlike source.needs old new) (take_waits : (old : S) (taken : Taken) (new : S) → source.steps.takes old taken new → WaitsAlike source.needs old new) where
+  alike_taken : (given : List Taken) (old new : S) → FoldsTo source.steps.takes old given new → WaitsAlike source.needs old new
+  alike_taken [] old new h = subst (WaitsAlike source.needs old) h (alike_self source.needs old)
+  alike_taken (taken ∷ given) old new h = alike_on source.needs old h.0 new (take_waits old taken h.0 h.1) (alike_taken given h.0 new h.2)
 
   -- one round leaves the source at the same places
-  pub alike_asked : (old : Bounded F S) (names : List ℕ) (last : Option Taken) (slots : Slots F) (source : S) → Asks polled steps old names last slots source → WaitsAlike needs old.source source
-  alike_asked old names last slots source asks = alike_on needs old.source asks.registered source (register_waits _ _ asks.registers_first) (alike_taken _ _ _ asks.answers)
+  pub alike_asked : (old new : Bounded F S) (answer : Poll (ℕ × A)) (cx left : Context) → RegistersAndTakes rule source old answer new cx left → WaitsAlike source.needs old.source new.source
+  alike_asked old new answer cx left asks = alike_on source.needs old.source asks.source_then new.source (register_waits _ _ asks.registers) (alike_taken _ _ _ asks.takes.came)
 
 -- a task that is registered with each group is registered with one of them
 pub covered_at : {F S : Type 0} (needs : S → ℕ → Type 0) (cx : Context) (gs : List (Bounded F S)) (q : ℕ) (group : Bounded F S) → group ≡ get_or gs q group → q < length gs → EachCovered needs cx gs → Covers cx (needs group.source)

@@ -1,15 +1,14 @@
 -- What a set's poll keeps of each group that it asks, what may come from the set, and the set as a stream.
-use Rattle.std.proofs.Common.{◌≡◌, ℕ, Bool, false, ◌+◌, ◌<◌, ◌↔◌, [], length, Option, Some, None, IfSome, refl, sym, ap, subst, arith}
+use Rattle.std.proofs.Common.{◌≡◌, Bool, true, false, ◌+◌, ◌<◌, ◌↔◌, [], length, Option, Some, None, IfSome, refl, sym, subst, arith}
 use Rattle.futures.specs.Poll.{IfReady, OnPending}
 use Rattle.futures.specs.Runs.{After, Within}
 use Rattle.futures.specs.declared.task.context.Context.{Context}
 use Rattle.futures.specs.declared.task.Poll.{Poll}
 use Rattle.futures.specs.declared.task.Poll.TheVariants.{Ready, Pending}
-use Rattle.futures_buffered_core.specs.ReadySource.{WaitsAlike, SourceSteps}
-use Rattle.futures_buffered_core.specs.SlotMap.{slot_count}
+use Rattle.futures_buffered_core.specs.ReadySource.{WaitsAlike}
 use Rattle.futures_buffered_table.specs.declared.answer.Taken.{Taken}
 use Rattle.futures_buffered_unordered.specs.Held.{AnyMayGive}
-use Rattle.futures_buffered_unordered.specs.FuturesUnorderedBounded.{Bounded, PollGives, held_in}
+use Rattle.futures_buffered_unordered.specs.FuturesUnorderedBounded.{Bounded, held_in}
 use Rattle.futures_buffered_unordered.specs.Groups.{AsksInTurn, Groups, outputs_in}
 use Rattle.futures_buffered_unordered.proofs.HeldGivesLemmas.{Gathers-Within, Gathers-After}
 use Rattle.futures_buffered_unordered.proofs.FuturesUnorderedBoundedLemmas.{poll_counted, poll_pending_holds, poll_end_is_empty, poll_gave, poll_still}
@@ -21,41 +20,41 @@ use Rattle.futures_buffered_unordered.specs.FuturesUnorderedInvariant.{KeepsGrou
 use Rattle.futures_buffered_unordered.specs.FuturesUnordered.{AnyGroupMayGive, ComesFromGroups}
 use Rattle.futures_buffered_unordered.proofs.FuturesUnorderedInvariantLemmas.{alike_asked, alike_self}
 use Rattle.futures_buffered_unordered.proofs.GroupsLemmas.{Weighs, turns_any, turns_output, turns_sum, turns_weigh}
-use Rattle.futures_buffered_unordered.proofs.PollsBoundedLemmas.{gives_of}
 use Rattle.futures_buffered_unordered.proofs.StreamAnswersLemmas.{answers_of}
 
-module _ {F A S : Type 0} (needs : S → ℕ → Type 0) (polled : ℕ → F → Poll A → F → Type 0) (steps : SourceSteps S)
-    (register_waits : (old new : S) → steps.registers old new → WaitsAlike needs old new) (take_waits : (old : S) (taken : Taken) (new : S) → steps.takes old taken new → WaitsAlike needs old new) where
+module _ {R F W A S : Type 0} (rule : PollOneOf R F W A) (source : ReadySourceOf S W)
+    (register_waits : (old new : S) → source.steps.registers old new → WaitsAlike source.needs old new) (take_waits : (old : S) (taken : Taken) (new : S) → source.steps.takes old taken new → WaitsAlike source.needs old new) where
   -- a poll leaves the source at the same places
-  alike_polled : (old new : Bounded F S) (answer : Poll (Option A)) → PollGives polled steps old answer new → WaitsAlike needs old.source new.source
-  alike_polled old new (Ready None) h = subst (λ (b : Bounded F S). WaitsAlike needs old.source b.source) (sym h.1) (alike_self needs old.source)
-  alike_polled old new (Ready (Some x)) h = subst (λ (b : Bounded F S). WaitsAlike needs old.source b.source) (sym h.1.3) (alike_asked needs polled steps register_waits take_waits _ _ _ _ _ h.1.2.3)
-  alike_polled old new Pending h = alike_asked needs polled steps register_waits take_waits _ _ _ _ _ h.1.3
+  alike_polled : (old new : Bounded F S) (answer : Poll (Option A)) (cx left : Context) → PollsBounded rule source old answer new cx left → WaitsAlike source.needs old.source new.source
+  alike_polled old new (Ready None) cx left it = subst (λ (b : Bounded F S). WaitsAlike source.needs old.source b.source) (sym it.gave.1) (alike_self source.needs old.source)
+  alike_polled old new (Ready (Some x)) cx left it = subst (λ (b : Bounded F S). WaitsAlike source.needs old.source b.source) (sym it.gave.1.3) (alike_asked rule source register_waits take_waits _ _ _ _ _ it.gave.1.2)
+  alike_polled old new Pending cx left it = alike_asked rule source register_waits take_waits _ _ _ _ _ it.gave.1
 
   -- what a poll keeps of a group
-  pub keeps_polled : (old new : Bounded F S) (answer : Poll (Option A)) → PollGives polled steps old answer new → slot_count new.slots ≡ slot_count old.slots → new.limit ≡ old.limit → KeepsGroup needs old answer new
-  keeps_polled old new answer h slots limit =
-      let holds = poll_pending_holds polled steps old new in
-      let empty = poll_end_is_empty polled steps old new in
-      record { fewer = omega (arith, poll_counted polled steps old new answer h); pending_holds = grind arith; ended_is_empty = grind arith; same_kind = record { same_slots = slots; same_limit = limit; waits = alike_polled old new answer h } }
+  pub keeps_polled : (old new : Bounded F S) (answer : Poll (Option A)) (cx left : Context) → PollsBounded rule source old answer new cx left → KeepsGroup source.needs old answer new
+  keeps_polled old new answer cx left it =
+      let holds = poll_pending_holds rule source old new cx left in
+      let empty = poll_end_is_empty rule source old new cx left in
+      record { fewer = omega (arith, poll_counted rule source old new answer cx left it); pending_holds = grind arith; ended_is_empty = grind arith; same_kind = record { same_slots = it.capacity; same_limit = it.limit; waits = alike_polled old new answer cx left it } }
+
+-- a registration, or none, leaves the source at the same places
+pub unless_waits : {S W : Type 0} (source : ReadySourceOf S W) (b : Bool) → ((old new : S) → source.steps.registers old new → WaitsAlike source.needs old new) → (old new : S) → (unless_registered b source).steps.registers old new → WaitsAlike source.needs old new
+unless_waits {S} source true waits old new same = subst (λ (s : S). WaitsAlike source.needs old s) (sym same) (alike_self source.needs old)
+unless_waits source false waits old new registers = waits old new registers
 
 module _ {R F W A S : Type 0} (rule : PollOneOf R F W A) (source : ReadySourceOf S W) where
   -- how a set polls a group
   abbrev pub PollsOneGroup : Bool → Bounded F S → Poll (Option A) → Bounded F S → Context → Context → Type 0
   PollsOneGroup is_registered = PollsBounded rule (unless_registered is_registered source)
 
-  -- one poll of a group, told of the group alone
-  pub group_gives : (b : Bool) (old new : Bounded F S) (answer : Poll (Option A)) (cx left : Context) → PollsOneGroup b old answer new cx left → PollGives rule.polled (unless_registered b source).steps old answer new
-  group_gives b old new answer cx left it = gives_of rule (unless_registered b source) (unless_registered b source).steps.registers (λ s t h. h) old new answer cx left it
-
   counted : (b : Bool) (old new : Bounded F S) (answer : Poll (Option A)) (cx left : Context) → PollsOneGroup b old answer new cx left → held_in new + outputs_in answer ≡ held_in old
-  counted b old new answer cx left it = poll_counted rule.polled (unless_registered b source).steps old new answer (group_gives b old new answer cx left it)
+  counted b = poll_counted rule (unless_registered b source)
 
   pending_holds : (b : Bool) (old new : Bounded F S) (cx left : Context) → PollsOneGroup b old Pending new cx left → 0 < held_in new
-  pending_holds b old new cx left it = omega (arith, it.gave.0, it.same)
+  pending_holds b = poll_pending_holds rule (unless_registered b source)
 
   ended_empty : (b : Bool) (old new : Bounded F S) (cx left : Context) → PollsOneGroup b old (Ready None) new cx left → held_in new ≡ 0
-  ended_empty b old new cx left it = omega (arith, it.gave.0, ap (λ (g : Bounded F S). held_in g) it.gave.1)
+  ended_empty b = poll_end_is_empty rule (unless_registered b source)
 
   module _ (old new : Groups (Bounded F S)) (cx left : Context) where
     -- one poll of the groups
@@ -81,11 +80,11 @@ module _ {R F W A S : Type 0} (rule : PollOneOf R F W A) (source : ReadySourceOf
 
     pub still : (answer : Poll (Option A)) → PollsTurns answer → (y : A) → AnyGroupMayGive rule.polled new.listed y → AnyGroupMayGive rule.polled old.listed y
     still answer h y any =
-        turns_any PollsOneGroup (λ (g : Bounded F S). AnyMayGive rule.polled g.slots y) (λ b group after a c d asked. poll_still rule.polled (unless_registered b source).steps y group after a (group_gives b group after a c d asked)) _ _ old answer new cx left h any
+        turns_any PollsOneGroup (λ (g : Bounded F S). AnyMayGive rule.polled g.slots y) (λ b group after a c d asked. poll_still rule (unless_registered b source) group after y a c d asked) _ _ old answer new cx left h any
 
     pub gave : (x : A) → PollsTurns (Ready (Some x)) → AnyGroupMayGive rule.polled old.listed x
     gave x h =
-        turns_output PollsOneGroup (λ (g : Bounded F S). AnyMayGive rule.polled g.slots x) (λ b group after a c d asked. poll_still rule.polled (unless_registered b source).steps x group after a (group_gives b group after a c d asked)) x (λ b group after c d asked. poll_gave rule.polled (unless_registered b source).steps x group after (group_gives b group after (Ready (Some x)) c d asked)) _ _ old new cx left h
+        turns_output PollsOneGroup (λ (g : Bounded F S). AnyMayGive rule.polled g.slots x) (λ b group after a c d asked. poll_still rule (unless_registered b source) group after x a c d asked) x (λ b group after c d asked. poll_gave rule (unless_registered b source) group after x c d asked) _ _ old new cx left h
 
     pub value_of : (answer : Poll (Option A)) → PollsTurns answer → IfReady answer (ComesFromGroups rule.polled old.listed [])
     value_of (Ready None) h = record { each = tt; ends = sym ((ends_of (Ready None) h).0 refl) }

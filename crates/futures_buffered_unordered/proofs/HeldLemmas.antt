@@ -1,11 +1,11 @@
 -- What holds of the values in slots, once one was put in, polled or taken out.
-use Rattle.std.proofs.Common.{◌≡◌, ◌≢◌, ℕ, zero, suc, ◌<◌, List, length, set, get_or, Option, Some, None, IsSome, is_some, cond, refl, ap, arith, length-set, ◌∙◌}
+use Rattle.std.proofs.Common.{◌≡◌, ◌≢◌, ℕ, zero, suc, ◌<◌, List, length, set, get_or, Option, Some, None, IfSome, IsSome, is_some, cond, refl, ap, arith, length-set, ◌∙◌}
 use Rattle.std.proofs.lemmas.List.{get_or-set_same, get_or-set_other, get_or_past}
 use Rattle.std.proofs.lemmas.List.Sums.{sum_by-set}
 use Rattle.futures.specs.declared.task.Poll.{Poll}
 use Rattle.futures.specs.declared.task.Poll.TheVariants.{Pending}
 use Rattle.futures_buffered_core.specs.SlotMap.{Slots, Inserts, value_in, held_count, no_slots, with_value}
-use Rattle.futures_buffered_unordered.specs.Held.{AllHeld, AllHeldBut, EndsWith, Passes}
+use Rattle.futures_buffered_unordered.specs.Held.{AllHeld, EndsWith, Passes}
 
 pub passes_pending : {F A : Type 0} (polled : ℕ → F → Poll A → F → Type 0) (m : Slots F) (i : ℕ) (f left : F) → value_in m i ≡ Some f → polled i f Pending left → Passes polled m i (with_value m i left)
 passes_pending polled m i f left e h = rw e (left, h, refl)
@@ -27,8 +27,8 @@ AllHeld-with {F} P m i f all here q =
     grind arith
 
 -- each value but that one may still be polled
-pub AllHeldBut-with : {F : Type 0} (P : F → Type 0) (m : Slots F) (i : ℕ) (f : F) → AllHeld P m → AllHeldBut i P (with_value m i f)
-AllHeldBut-with P m i f all j other = rw (get_or-set_other m.places i j (Some f) None other) (all j)
+pub others-with : {F : Type 0} (P : F → Type 0) (m : Slots F) (i : ℕ) (f : F) → AllHeld P m → (j : ℕ) → j ≢ i → IfSome (value_in (with_value m i f) j) P
+others-with P m i f all j other = rw (get_or-set_other m.places i j (Some f) None other) (all j)
 
 -- what holds of each value, and of the one that was put in, holds of each value after
 pub AllHeld-push : {F : Type 0} (P : F → Type 0) (old : Slots F) (i : ℕ) (value : F) (new : Slots F) → Inserts old i value new → AllHeld P old → P value → AllHeld P new

@@ -7,17 +7,17 @@ use Rattle.std.proofs.lemmas.List.Elements.{filter_map-append}
 use Rattle.std.proofs.lemmas.List.Sums.{get_or-le-sum_by}
 use Rattle.futures.specs.Poll.{IfReady, OnPending}
 use Rattle.futures.specs.Runs.{After, Within, seconds}
+use Rattle.futures.specs.declared.task.context.Context.{Context}
 use Rattle.futures.specs.declared.task.Poll.{Poll}
 use Rattle.futures.specs.declared.task.Poll.TheVariants.{Ready, Pending}
 use Rattle.futures_buffered_core.specs.SlotMap.{Slots, value_in, held_count, with_value, with_slot_freed}
-use Rattle.futures_buffered_table.specs.declared.answer.Woke.{Woke}
-use Rattle.futures_buffered_core.specs.ReadySource.{SourceSteps}
 use Rattle.futures_buffered_unordered.specs.Held.{Passes}
 use Rattle.futures_buffered_unordered.specs.FuturesUnorderedBounded.{Bounded}
 use Rattle.futures_buffered_unordered.proofs.HeldLemmas.{value_in-with_value}
 use Rattle.futures_buffered_unordered.proofs.HeldGivesLemmas.{value_in-with_slot_freed, value_in-with_slot_freed_other}
 use Rattle.futures_buffered_unordered.specs.SlotStream.{item_of, items_in, Gave}
-use Rattle.futures_buffered_unordered.specs.Merging.{CountEnds, MergeGives}
+use Rattle.futures_buffered_unordered.specs.PollsBounded.{ReadySourceOf}
+use Rattle.futures_buffered_unordered.specs.Merging.{PollsMergeBounded, RoundEnds, SlotStreamOf}
 use Rattle.futures_buffered_unordered.specs.MergeBounded.{items_at, StreamsGave, ComesFromStreams, KeepsOrder}
 use Rattle.futures_buffered_unordered.proofs.SlotStreamLemmas.{gave_none, gave_pending, gave_item, became_none, became_on}
 
@@ -80,82 +80,83 @@ module _ {F A : Type 0} (polled : ℕ → F → Poll (Option A) → F → Type 0
   within_of old new gave items (Some y) run = (run.0, run.1, run.2, run.3, streams_on old new run.2 [] (run.0 ++ (run.1, y) ∷ []) gave run.4)
   within_of old new gave items None run = (run.0, run.1, run.2, run.3, streams_on old new run.1 [] run.0 gave run.4)
 
-  module _ {S : Type 0} (steps : SourceSteps S) (marks : S → ℕ → Woke → S → Type 0) where
-    count_gave : (old new : Bounded F S) (i : ℕ) → CountEnds polled steps marks old i new → StreamsGave polled old.slots [] new.slots
-    count_gave old new i h =
-        let asks = h.1.1 in
-        let at_end = asks.4 in
-        let freed = ap (λ (b : Bounded F S). b.slots) h.1.2 ∙ ap (λ (m : Slots F). with_slot_freed m i) at_end.now_holds in
-        rw freed (streams_on old.slots asks.2 (with_slot_freed (with_value asks.2 i at_end.left) i) [] [] (passed_gave asks.0 old.slots asks.2 asks.3.passes) (ended_gave asks.2 i at_end.value at_end.left at_end.held at_end.gave))
+module _ {St W A S : Type 0} (stream : SlotStreamOf St W A) (source : ReadySourceOf S W) where
+  round_gave : (old new : Bounded St S) (i : ℕ) (cx left : Context) → RoundEnds stream source (old, cx) i (new, left) → StreamsGave stream.polled old.slots [] new.slots
+  round_gave old new i cx left h =
+      let takes = h.1.1.takes in
+      let at_end = takes.ends.2 in
+      let freed = ap (λ (b : Bounded St S). b.slots) h.1.2 ∙ ap (λ (m : Slots St). with_slot_freed m i) at_end.now_holds in
+      rw freed (streams_on stream.polled old.slots takes.passed (with_slot_freed (with_value takes.passed i at_end.left) i) [] [] (passed_gave stream.polled takes.names old.slots takes.passed takes.passes) (ended_gave stream.polled takes.passed i at_end.value at_end.left at_end.held at_end.gave))
 
-    counts_gave : (ended : List ℕ) (old new : Bounded F S) → FoldsTo (CountEnds polled steps marks) old ended new → StreamsGave polled old.slots [] new.slots
-    counts_gave [] old new h = subst (λ (b : Bounded F S). StreamsGave polled old.slots [] b.slots) h (streams_none old.slots)
-    counts_gave (i ∷ ended) old new h = streams_on old.slots h.0.slots new.slots [] [] (count_gave old h.0 i h.1) (counts_gave ended h.0 new h.2)
+  rounds_gave : (ended : List ℕ) (old new : Bounded St S) (cx left : Context) → FoldsTo (RoundEnds stream source) (old, cx) ended (new, left) → StreamsGave stream.polled old.slots [] new.slots
+  rounds_gave [] old new cx left h = subst (λ (p : Bounded St S × Context). StreamsGave stream.polled old.slots [] p.0.slots) h (streams_none stream.polled old.slots)
+  rounds_gave (i ∷ ended) old new cx left ((mid, then), round, rounds) = streams_on stream.polled old.slots mid.slots new.slots [] [] (round_gave old mid i cx then round) (rounds_gave ended mid new then left rounds)
 
+  module _ (old new : Bounded St S) (cx left : Context) where
     -- one poll
-    pub item_gave : (old new : Bounded F S) (x : A) → MergeGives polled steps marks old (Ready (Some x)) new → (i : ℕ) × StreamsGave polled old.slots ((i, x) ∷ []) new.slots
-    item_gave old new x (stopped, h) =
-        let last = h.last_count.1 in
+    pub item_gave : (x : A) → PollsMergeBounded stream source old (Ready (Some x)) new cx left → (i : ℕ) × StreamsGave stream.polled old.slots ((i, x) ∷ []) new.slots
+    item_gave x it =
+        let last = it.last_round.1 in
         let i = last.0 in
-        let asks = last.2 in
-        let gives = asks.4 in
-        let stays = ap (λ (b : Bounded F S). b.slots) last.4 ∙ gives.now_holds in
+        let takes = last.2.takes in
+        let gives = takes.ends.2 in
+        let stays = ap (λ (b : Bounded St S). b.slots) last.4 ∙ gives.now_holds in
         let here = items_here i x in
-        let passed = streams_on old.slots h.before.slots asks.2 [] [] (counts_gave h.ended old h.before h.counts) (passed_gave asks.0 h.before.slots asks.2 asks.3.passes) in (
+        let passed = streams_on stream.polled old.slots it.before.slots takes.passed [] [] (rounds_gave it.ended old it.before cx it.task_then it.rounds) (passed_gave stream.polled takes.names it.before.slots takes.passed takes.passes) in (
           i,
-          rw stays (streams_on old.slots asks.2 (with_value asks.2 i gives.left) [] ((i, x) ∷ []) passed (at_slot asks.2 i gives.value gives.left ((i, x) ∷ []) gives.held (λ j other. items_elsewhere i j x other) (rw here (gave_item (polled i) gives.value gives.left x gives.gave)))),
+          rw stays (streams_on stream.polled old.slots takes.passed (with_value takes.passed i gives.left) [] ((i, x) ∷ []) passed (at_slot stream.polled takes.passed i gives.value gives.left ((i, x) ∷ []) gives.held (λ j other. items_elsewhere i j x other) (rw here (gave_item (stream.polled i) gives.value gives.left x gives.gave)))),
         )
 
-    pub pending_gave : (old new : Bounded F S) → MergeGives polled steps marks old Pending new → StreamsGave polled old.slots [] new.slots
-    pending_gave old new (stopped, h) =
-        let asks = h.last_count.1 in
-        streams_on old.slots h.before.slots new.slots [] [] (counts_gave h.ended old h.before h.counts) (passed_gave asks.0 h.before.slots new.slots asks.4.passes)
+    pub pending_gave : PollsMergeBounded stream source old Pending new cx left → StreamsGave stream.polled old.slots [] new.slots
+    pending_gave it =
+        let takes = it.last_round.1.takes in
+        rw takes.ends.0 (streams_on stream.polled old.slots it.before.slots takes.passed [] [] (rounds_gave it.ended old it.before cx it.task_then it.rounds) (passed_gave stream.polled takes.names it.before.slots takes.passed takes.passes))
 
-    pub end_gave : (old new : Bounded F S) → MergeGives polled steps marks old (Ready None) new → ((j : ℕ) → value_in new.slots j ≡ None) × StreamsGave polled old.slots [] new.slots
-    end_gave old new (stopped, h) =
-        let same = h.last_count.1 in (
-          rw same (none_held h.before.slots h.last_count.0),
-          rw same (counts_gave h.ended old h.before h.counts),
+    pub end_gave : PollsMergeBounded stream source old (Ready None) new cx left → ((j : ℕ) → value_in new.slots j ≡ None) × StreamsGave stream.polled old.slots [] new.slots
+    end_gave it =
+        let same = it.last_round.1 in (
+          rw same (none_held it.before.slots it.last_round.0),
+          rw same (rounds_gave it.ended old it.before cx it.task_then it.rounds),
         )
 
-    pub value_of : (old new : Bounded F S) (answer : Poll (Option A)) → MergeGives polled steps marks old answer new → IfReady answer (ComesFromStreams polled old.slots [])
-    value_of old new (Ready (Some x)) h = let gave = item_gave old new x h in ([], gave.0, new.slots, refl, gave.1)
-    value_of old new (Ready None) h = let gave = end_gave old new h in ([], new.slots, refl, gave.0, gave.1)
-    value_of old new Pending h = tt
+    pub value_of : (answer : Poll (Option A)) → PollsMergeBounded stream source old answer new cx left → IfReady answer (ComesFromStreams stream.polled old.slots [])
+    value_of (Ready (Some x)) it = let gave = item_gave x it in ([], gave.0, new.slots, refl, gave.1)
+    value_of (Ready None) it = let gave = end_gave it in ([], new.slots, refl, gave.0, gave.1)
+    value_of Pending it = tt
 
-    pub rest_of : (old new : Bounded F S) (answer : Poll (Option A)) → MergeGives polled steps marks old answer new → IfReady answer (λ o. IfSome o (λ x. After (ComesFromStreams polled old.slots) x (ComesFromStreams polled new.slots)))
-    rest_of old new (Ready (Some x)) h = after
+    pub rest_of : (answer : Poll (Option A)) → PollsMergeBounded stream source old answer new cx left → IfReady answer (λ o. IfSome o (λ x. After (ComesFromStreams stream.polled old.slots) x (ComesFromStreams stream.polled new.slots)))
+    rest_of (Ready (Some x)) it = after
       where
-        after : After (ComesFromStreams polled old.slots) x (ComesFromStreams polled new.slots)
+        after : After (ComesFromStreams stream.polled old.slots) x (ComesFromStreams stream.polled new.slots)
         after items (Some y) run =
-            let gave = item_gave old new x h in
-            ((gave.0, x) ∷ run.0, run.1, run.2, ap (λ (l : List A). x ∷ l) run.3, streams_on old.slots new.slots run.2 ((gave.0, x) ∷ []) (run.0 ++ (run.1, y) ∷ []) gave.1 run.4)
+            let gave = item_gave x it in
+            ((gave.0, x) ∷ run.0, run.1, run.2, ap (λ (l : List A). x ∷ l) run.3, streams_on stream.polled old.slots new.slots run.2 ((gave.0, x) ∷ []) (run.0 ++ (run.1, y) ∷ []) gave.1 run.4)
         after items None run =
-            let gave = item_gave old new x h in
-            ((gave.0, x) ∷ run.0, run.1, ap (λ (l : List A). x ∷ l) run.2, run.3, streams_on old.slots new.slots run.1 ((gave.0, x) ∷ []) run.0 gave.1 run.4)
-    rest_of old new (Ready None) h = tt
-    rest_of old new Pending h = tt
+            let gave = item_gave x it in
+            ((gave.0, x) ∷ run.0, run.1, ap (λ (l : List A). x ∷ l) run.2, run.3, streams_on stream.polled old.slots new.slots run.1 ((gave.0, x) ∷ []) run.0 gave.1 run.4)
+    rest_of (Ready None) it = tt
+    rest_of Pending it = tt
 
-    pub same_of : (old new : Bounded F S) (answer : Poll (Option A)) → MergeGives polled steps marks old answer new → OnPending answer (Within (ComesFromStreams polled old.slots) (ComesFromStreams polled new.slots))
-    same_of old new (Ready o) h = tt
-    same_of old new Pending h = within_of old.slots new.slots (pending_gave old new h)
+    pub same_of : (answer : Poll (Option A)) → PollsMergeBounded stream source old answer new cx left → OnPending answer (Within (ComesFromStreams stream.polled old.slots) (ComesFromStreams stream.polled new.slots))
+    same_of (Ready o) it = tt
+    same_of Pending it = within_of stream.polled old.slots new.slots (pending_gave it)
 
     -- a poll that ended the last stream adds nothing to what may come
-    pub ended_of : (old new : Bounded F S) → MergeGives polled steps marks old (Ready None) new → Within (ComesFromStreams polled old.slots) (ComesFromStreams polled new.slots)
-    ended_of old new h = within_of old.slots new.slots (end_gave old new h).1
+    pub ended_of : PollsMergeBounded stream source old (Ready None) new cx left → Within (ComesFromStreams stream.polled old.slots) (ComesFromStreams stream.polled new.slots)
+    ended_of it = within_of stream.polled old.slots new.slots (end_gave it).1
 
     -- the items of one poll
-    pub polled_gave : (old new : Bounded F S) (answer : Poll (Option A)) → MergeGives polled steps marks old answer new → (given : List (ℕ × A)) × (items_in (answer ∷ []) ≡ seconds given) × StreamsGave polled old.slots given new.slots
-    polled_gave old new (Ready (Some x)) h = let gave = item_gave old new x h in ((gave.0, x) ∷ [], refl, gave.1)
-    polled_gave old new (Ready None) h = ([], refl, (end_gave old new h).1)
-    polled_gave old new Pending h = ([], refl, pending_gave old new h)
+    pub polled_gave : (answer : Poll (Option A)) → PollsMergeBounded stream source old answer new cx left → (given : List (ℕ × A)) × (items_in (answer ∷ []) ≡ seconds given) × StreamsGave stream.polled old.slots given new.slots
+    polled_gave (Ready (Some x)) it = let gave = item_gave x it in ((gave.0, x) ∷ [], refl, gave.1)
+    polled_gave (Ready None) it = ([], refl, (end_gave it).1)
+    polled_gave Pending it = ([], refl, pending_gave it)
 
-    -- many polls
-    pub keeps_order : KeepsOrder polled steps marks
-    keeps_order old new [] h = ([], refl, subst (λ (b : Bounded F S). StreamsGave polled old.slots [] b.slots) h (streams_none old.slots))
-    keeps_order old new (answer ∷ answers) h =
-        let (given, is, gave) = polled_gave old h.0 answer h.1 in
-        let (more, more_is, rest) = keeps_order h.0 new answers h.2 in
-        let parts = filter_map-append item_of (answer ∷ []) answers in
-        let joined = map-append (λ (p : ℕ × A). p.1) given more in
-        (given ++ more, parts ∙ ap (λ (l : List A). l ++ items_in answers) is ∙ ap (λ (l : List A). seconds given ++ l) more_is ∙ sym joined, streams_on old.slots h.0.slots new.slots given more gave rest)
+  -- many polls
+  pub keeps_order : KeepsOrder stream source
+  keeps_order old new [] h = ([], refl, subst (λ (b : Bounded St S). StreamsGave stream.polled old.slots [] b.slots) h (streams_none stream.polled old.slots))
+  keeps_order old new (answer ∷ answers) (mid, (cx, left, it), rest) =
+      let (given, is, gave) = polled_gave old mid cx left answer it in
+      let (more, more_is, later) = keeps_order mid new answers rest in
+      let parts = filter_map-append item_of (answer ∷ []) answers in
+      let joined = map-append (λ (p : ℕ × A). p.1) given more in
+      (given ++ more, parts ∙ ap (λ (l : List A). l ++ items_in answers) is ∙ ap (λ (l : List A). seconds given ++ l) more_is ∙ sym joined, streams_on stream.polled old.slots mid.slots new.slots given more gave later)

@@ -4,13 +4,14 @@ use Rattle.std.proofs.lemmas.Bool.{cases_eq}
 use Rattle.std.proofs.lemmas.List.{map-append}
 use Rattle.std.proofs.lemmas.List.Elements.{filter_map-append}
 use Rattle.futures.specs.Runs.{seconds}
+use Rattle.futures.specs.declared.task.context.Context.{Context}
 use Rattle.futures.specs.declared.task.Poll.{Poll}
 use Rattle.futures_buffered_core.specs.SlotMap.{Slots, value_in, Inserts}
-use Rattle.futures_buffered_table.specs.declared.answer.Woke.{Woke}
-use Rattle.futures_buffered_core.specs.ReadySource.{SourceSteps}
 use Rattle.futures_buffered_unordered.specs.FuturesUnorderedBounded.{Bounded}
 use Rattle.futures_buffered_unordered.proofs.HeldLemmas.{value_inserted, value_inserted_other}
+use Rattle.futures_buffered_unordered.specs.PollsBounded.{ReadySourceOf}
 use Rattle.futures_buffered_unordered.specs.SlotStream.{item_of, items_in}
+use Rattle.futures_buffered_unordered.specs.Merging.{PollsMergeBounded, SlotStreamOf}
 use Rattle.futures_buffered_unordered.specs.MergeBounded.{answered, pushed, answers_of, streams_of, HeldInTurn, SlotsGaveInTurn, KeepsOrderWithPushes}
 use Rattle.futures_buffered_unordered.proofs.SlotStreamLemmas.{became_none, became_on, gave_none}
 use Rattle.futures_buffered_unordered.proofs.MergeBoundedLemmas.{items_elsewhere, items_here, polled_gave, streams_none}
@@ -52,13 +53,15 @@ module _ {F A : Type 0} (polled : ℕ → F → Poll (Option A) → F → Type 0
     ],
   )
 
-module _ {F A S : Type 0} (polled : ℕ → F → Poll (Option A) → F → Type 0) (steps : SourceSteps S) (marks : S → ℕ → Woke → S → Type 0) where
-  pub keeps_order_with_pushes : KeepsOrderWithPushes polled steps marks
-  keeps_order_with_pushes old new [] h = subst (λ (b : Bounded F S). SlotsGaveInTurn polled old.slots [] [] b.slots) h (turns_none polled old.slots)
-  keeps_order_with_pushes old new (answered answer ∷ events) h =
-      let (given, is, gave) = polled_gave polled steps marks old h.0 answer h.1 in
-      subst (λ (l : List A). SlotsGaveInTurn polled old.slots l (streams_of events) new.slots) (sym (filter_map-append item_of (answer ∷ []) (answers_of events)))
-      (turns_on polled old.slots h.0.slots new.slots (items_in (answer ∷ [])) (items_in (answers_of events)) [] (streams_of events) (given, [], is, refl, gave) (keeps_order_with_pushes h.0 new events h.2))
-  keeps_order_with_pushes old new (pushed stream ∷ events) h =
-      let push = h.1 in
-      turns_on polled old.slots h.0.slots new.slots [] (items_in (answers_of events)) (stream ∷ []) (streams_of events) (turns_pushed polled old.slots h.0.slots push.0 stream push.1.inserted) (keeps_order_with_pushes h.0 new events h.2)
+module _ {St W A S : Type 0} (stream : SlotStreamOf St W A) (source : ReadySourceOf S W) where
+  -- the turn of one poll
+  pub turn_polled : (old new : Bounded St S) (answer : Poll (Option A)) (cx left : Context) → PollsMergeBounded stream source old answer new cx left → SlotsGaveInTurn stream.polled old.slots (items_in (answer ∷ [])) [] new.slots
+  turn_polled old new answer cx left it = let (given, is, gave) = polled_gave stream source old new cx left answer it in (given, [], is, refl, gave)
+
+  pub keeps_order_with_pushes : KeepsOrderWithPushes stream source
+  keeps_order_with_pushes old new [] h = subst (λ (b : Bounded St S). SlotsGaveInTurn stream.polled old.slots [] [] b.slots) h (turns_none stream.polled old.slots)
+  keeps_order_with_pushes old new (answered answer ∷ events) (mid, (cx, left, it), rest) =
+      subst (λ (l : List A). SlotsGaveInTurn stream.polled old.slots l (streams_of events) new.slots) (sym (filter_map-append item_of (answer ∷ []) (answers_of events)))
+      (turns_on stream.polled old.slots mid.slots new.slots (items_in (answer ∷ [])) (items_in (answers_of events)) [] (streams_of events) (turn_polled old mid answer cx left it) (keeps_order_with_pushes mid new events rest))
+  keeps_order_with_pushes old new (pushed value ∷ events) (mid, push, rest) =
+      turns_on stream.polled old.slots mid.slots new.slots [] (items_in (answers_of events)) (value ∷ []) (streams_of events) (turns_pushed stream.polled old.slots mid.slots push.0 value push.1.inserted) (keeps_order_with_pushes mid new events rest)

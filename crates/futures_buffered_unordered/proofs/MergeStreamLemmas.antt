@@ -11,7 +11,7 @@ use Rattle.futures_buffered_unordered.specs.StreamAnswers.{StreamAnswers, stream
 use Rattle.futures_buffered_unordered.proofs.StreamAnswersLemmas.{answers_of, covers_fewer}
 use Rattle.futures_buffered_unordered.specs.MergeBounded.{ComesFromStreams}
 use Rattle.futures_buffered_unordered.specs.MergeUnbounded.{ItemsComeFromGroups, PollsMergeUnbounded}
-use Rattle.futures_buffered_unordered.specs.Merging.{MergeGives, PollsMergeBounded, SlotStreamOf}
+use Rattle.futures_buffered_unordered.specs.Merging.{PollsMergeBounded, SlotStreamOf}
 use Rattle.futures_buffered_unordered.proofs.MergeBoundedLemmas.{value_of, rest_of, same_of}
 use Rattle.futures_buffered_unordered.proofs.MergeUnboundedLemmas.{group_value, group_rest, group_same}
 
@@ -19,8 +19,7 @@ module _ {St W A S : Type 0} (stream : SlotStreamOf St W A) (source : ReadySourc
   pub bounded_answers : (old new : Bounded St S) (answer : Poll (Option A)) (cx left : Context) → PollsMergeBounded stream source old answer new cx left
       → StreamAnswers (stream_of (λ merge. AllHeld stream.can_poll merge.slots) (λ merge n. (0 < held_count merge.slots) × source.needs merge.source n) (λ merge. ComesFromStreams stream.polled merge.slots)) old answer new cx left
   bounded_answers old new answer cx left it =
-      let gave : MergeGives stream.polled source.steps source.marks old answer new = (it.stopped, it.gave) in
-      answers_of _ old new answer cx left (value_of stream.polled source.steps source.marks old new answer gave) (rest_of stream.polled source.steps source.marks old new answer gave) (same_of stream.polled source.steps source.marks old new answer gave) it.pollable (covers_fewer answer left (source.needs new.source) _ (λ n waits. waits.1) it.covered) it.kept
+      answers_of _ old new answer cx left (value_of stream source old new cx left answer it) (rest_of stream source old new cx left answer it) (same_of stream source old new cx left answer it) it.pollable (covers_fewer answer left (source.needs new.source) _ (λ n waits. waits.1) it.covered) it.kept
 
   pub growing_answers : (old new : Growing St S) (answer : Poll (Option A)) (cx left : Context) → PollsMergeUnbounded stream source old answer new cx left
       → StreamAnswers (stream_of (λ merge. EachHeld stream.can_poll merge.groups.listed) (λ merge. AnyNeeds source.needs merge.groups.listed) (λ merge. ItemsComeFromGroups stream.polled merge.groups.listed)) old answer new cx left

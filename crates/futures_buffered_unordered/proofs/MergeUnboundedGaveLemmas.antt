@@ -17,9 +17,9 @@ use Rattle.futures_buffered_unordered.specs.Merging.{SlotStreamOf}
 use Rattle.futures_buffered_unordered.specs.MergeBounded.{SlotsGaveInTurn}
 use Rattle.futures_buffered_unordered.specs.Interleaves.{Interleaves}
 use Rattle.futures_buffered_unordered.specs.MergeUnbounded.{HoldsNone, GroupsGaveInTurn, KeepsOrderInGroups, PollsMergeUnbounded, slots_of_each}
-use Rattle.futures_buffered_unordered.proofs.MergeBoundedLemmas.{end_gave, polled_gave}
-use Rattle.futures_buffered_unordered.proofs.MergeBoundedPushesLemmas.{turns_none, turns_on}
-use Rattle.futures_buffered_unordered.proofs.MergeUnboundedLemmas.{PollsOneMerge, merge_gives}
+use Rattle.futures_buffered_unordered.proofs.MergeBoundedLemmas.{end_gave}
+use Rattle.futures_buffered_unordered.proofs.MergeBoundedPushesLemmas.{turn_polled, turns_none, turns_on}
+use Rattle.futures_buffered_unordered.proofs.MergeUnboundedLemmas.{PollsOneMerge}
 
 -- the items of one list, and then those of the other
 pub interleaves_append : {A : Type 0} (xs ys : List A) → Interleaves xs ys (xs ++ ys)
@@ -91,15 +91,6 @@ module _ {F A : Type 0} (polled : ℕ → F → Poll (Option A) → F → Type 0
 
 module _ {St W A S : Type 0} (stream : SlotStreamOf St W A) (source : ReadySourceOf S W) where
   module _ (b : Bool) where
-    -- the turn of one group
-    turn_gave : (group left : Bounded St S) (answer : Poll (Option A)) (cx after : Context) → PollsOneMerge stream source b group answer left cx after → SlotsGaveInTurn stream.polled group.slots (items_in (answer ∷ [])) [] left.slots
-    turn_gave group left answer cx after it =
-        let (given, is, gave) = polled_gave stream.polled (unless_registered b source).steps source.marks group left answer (merge_gives stream source b group left answer cx after it) in
-        (given, [], is, refl, gave)
-
-    end_none : (group left : Bounded St S) (cx after : Context) → PollsOneMerge stream source b group (Ready None) left cx after → HoldsNone left.slots
-    end_none group left cx after it = (end_gave stream.polled (unless_registered b source).steps source.marks group left (merge_gives stream source b group left (Ready None) cx after it)).0
-
     slots_between : (earlier : List (Bounded St S)) (group : Bounded St S) (later : List (Bounded St S)) → slots_of_each (earlier ++ group ∷ later) ≡ slots_of_each earlier ++ group.slots ∷ slots_of_each later
     slots_between earlier group later = map-append (λ (g : Bounded St S). g.slots) earlier (group ∷ later)
 
@@ -108,14 +99,14 @@ module _ {St W A S : Type 0} (stream : SlotStreamOf St W A) (source : ReadySourc
     between_gave earlier later group left answer new cx after it leaves = by_answer later answer it leaves
       where
         kept : (later : List (Bounded St S)) (answer : Poll (Option A)) → PollsOneMerge stream source b group answer left cx after → new.listed ≡ earlier ++ left ∷ later → GroupsGaveInTurn stream.polled (slots_of_each (earlier ++ group ∷ later)) (items_in (answer ∷ [])) [] (slots_of_each new.listed)
-        kept later answer it is = rw (is, slots_between earlier group later, slots_between earlier left later) (groups_between stream.polled (slots_of_each earlier) (slots_of_each later) group.slots left.slots (items_in (answer ∷ [])) (turn_gave group left answer cx after it))
+        kept later answer it is = rw (is, slots_between earlier group later, slots_between earlier left later) (groups_between stream.polled (slots_of_each earlier) (slots_of_each later) group.slots left.slots (items_in (answer ∷ [])) (turn_polled stream (unless_registered b source) group left answer cx after it))
 
         by_answer : (later : List (Bounded St S)) (answer : Poll (Option A)) → PollsOneMerge stream source b group answer left cx after → LeavesBetween earlier later left answer new → GroupsGaveInTurn stream.polled (slots_of_each (earlier ++ group ∷ later)) (items_in (answer ∷ [])) [] (slots_of_each new.listed)
         by_answer later (Ready (Some x)) it h = kept later (Ready (Some x)) it h.0
         by_answer later Pending it h = kept later Pending it h.0
         by_answer [] (Ready None) it h = kept [] (Ready None) it h.0
         by_answer (next ∷ later) (Ready None) it h =
-            rw (h.0, slots_between earlier group (next ∷ later), slots_between earlier next later) (groups_leave stream.polled (slots_of_each earlier) (slots_of_each (next ∷ later)) group.slots left.slots (turn_gave group left (Ready None) cx after it) (end_none group left cx after it))
+            rw (h.0, slots_between earlier group (next ∷ later), slots_between earlier next later) (groups_leave stream.polled (slots_of_each earlier) (slots_of_each (next ∷ later)) group.slots left.slots (turn_polled stream (unless_registered b source) group left (Ready None) cx after it) (end_gave stream (unless_registered b source) group left cx after it).0)
 
     one_gave : (old : Groups (Bounded St S)) (answer : Poll (Option A)) (new : Groups (Bounded St S)) (cx after : Context) → AsksOne (PollsOneMerge stream source b) old answer new cx after → GroupsGaveInTurn stream.polled (slots_of_each old.listed) (items_in (answer ∷ [])) [] (slots_of_each new.listed)
     one_gave old answer new cx after one =

@@ -1,59 +1,46 @@
 -- What one poll makes of the groups of a merge.
-use Rattle.std.proofs.Common.{◌≡◌, ℕ, Bool, true, false, ◌<◌, ◌↔◌, List, [], ◌∷◌, length, Option, Some, None, IfSome, refl, sym, subst, arith}
+use Rattle.std.proofs.Common.{◌≡◌, ℕ, Bool, false, ◌<◌, ◌↔◌, List, [], ◌∷◌, length, Option, Some, None, IfSome, refl, sym, subst, arith}
 use Rattle.std.specs.List.{FoldsTo}
 use Rattle.futures.specs.Poll.{IfReady, OnPending}
 use Rattle.futures.specs.Runs.{After, Within}
 use Rattle.futures.specs.declared.task.context.Context.{Context}
 use Rattle.futures.specs.declared.task.Poll.{Poll}
 use Rattle.futures.specs.declared.task.Poll.TheVariants.{Ready, Pending}
-use Rattle.futures_buffered_core.specs.ReadySource.{WaitsAlike, SourceSteps}
-use Rattle.futures_buffered_core.specs.declared.ready_source.ReadySource.{Ghosts as ReadySourceOf}
+use Rattle.futures_buffered_core.specs.ReadySource.{WaitsAlike}
 use Rattle.futures_buffered_table.specs.declared.answer.Taken.{Taken}
 use Rattle.futures_buffered_table.specs.declared.answer.Woke.{Woke}
 use Rattle.futures_buffered_unordered.specs.FuturesUnorderedBounded.{Bounded, held_in}
 use Rattle.futures_buffered_unordered.specs.Groups.{AnyOf, AsksInTurn, Groups}
 use Rattle.futures_buffered_unordered.specs.FuturesUnordered.{held_in_all}
-use Rattle.futures_buffered_unordered.specs.PollsBounded.{unless_registered}
-use Rattle.futures_buffered_unordered.specs.Merging.{CountEnds, LastAsks, MergeAsks, MergeGives, PollsMergeBounded, SlotStreamOf}
+use Rattle.futures_buffered_unordered.specs.PollsBounded.{ReadySourceOf, unless_registered}
+use Rattle.futures_buffered_unordered.specs.Merging.{LastRound, PollsMergeBounded, RoundEnds, SlotStreamOf, each_stream}
 use Rattle.futures_buffered_unordered.specs.MergeUnbounded.{GroupMayGive, ItemsComeFromGroups}
 use Rattle.futures_buffered_unordered.proofs.FuturesUnorderedInvariantLemmas.{alike_asked, alike_on, alike_self}
 use Rattle.futures_buffered_unordered.proofs.GroupsLemmas.{Weighs, output_weighs, turns_any, turns_output, turns_weigh}
 use Rattle.futures_buffered_unordered.proofs.MergeBoundedLemmas.{value_of, rest_of, same_of, ended_of}
 
-module _ {F A S : Type 0} (needs : S → ℕ → Type 0) (polled : ℕ → F → Poll (Option A) → F → Type 0) (steps : SourceSteps S) (marks : S → ℕ → Woke → S → Type 0)
-    (register_waits : (old new : S) → steps.registers old new → WaitsAlike needs old new) (mark_waits : (old : S) (i : ℕ) (woke : Woke) (new : S) → marks old i woke new → WaitsAlike needs old new) (take_waits : (old : S) (taken : Taken) (new : S) → steps.takes old taken new → WaitsAlike needs old new) where
-  alike_ended : (old new : Bounded F S) (i : ℕ) → CountEnds polled steps marks old i new → WaitsAlike needs old.source new.source
-  alike_ended old new i h = subst (λ (b : Bounded F S). WaitsAlike needs old.source b.source) (sym h.1.2) (alike_asked needs polled steps register_waits take_waits _ _ _ _ _ h.1.1.3)
+module _ {St W A S : Type 0} (stream : SlotStreamOf St W A) (source : ReadySourceOf S W)
+    (register_waits : (old new : S) → source.steps.registers old new → WaitsAlike source.needs old new) (mark_waits : (old : S) (i : ℕ) (woke : Woke) (new : S) → source.marks old i woke new → WaitsAlike source.needs old new) (take_waits : (old : S) (taken : Taken) (new : S) → source.steps.takes old taken new → WaitsAlike source.needs old new) where
+  alike_rounds : (ended : List ℕ) (old new : Bounded St S) (cx left : Context) → FoldsTo (RoundEnds stream source) (old, cx) ended (new, left) → WaitsAlike source.needs old.source new.source
+  alike_rounds [] old new cx left h = subst (λ (p : Bounded St S × Context). WaitsAlike source.needs old.source p.0.source) h (alike_self source.needs old.source)
+  alike_rounds (i ∷ ended) old new cx left ((mid, then), (some, (before, asks, freed)), rounds) =
+      let here = subst (λ (b : Bounded St S). WaitsAlike source.needs old.source b.source) (sym freed) (alike_asked (each_stream stream) source register_waits take_waits old before _ cx then asks) in
+      alike_on source.needs old.source mid.source new.source here (alike_rounds ended mid new then left rounds)
 
-  alike_counts : (slots : List ℕ) (old new : Bounded F S) → FoldsTo (CountEnds polled steps marks) old slots new → WaitsAlike needs old.source new.source
-  alike_counts [] old new h = subst (λ (b : Bounded F S). WaitsAlike needs old.source b.source) h (alike_self needs old.source)
-  alike_counts (i ∷ slots) old new h = alike_on needs old.source h.0.source new.source (alike_ended old h.0 i h.1) (alike_counts slots h.0 new h.2)
+  alike_last : (old new : Bounded St S) (answer : Poll (Option A)) (cx left : Context) → LastRound stream source old answer new cx left → WaitsAlike source.needs old.source new.source
+  alike_last old new (Ready None) cx left h = subst (λ (b : Bounded St S). WaitsAlike source.needs old.source b.source) (sym h.1) (alike_self source.needs old.source)
+  alike_last old new (Ready (Some x)) cx left (some, (i, before, asks, marked, same)) =
+      alike_on source.needs old.source before.source new.source (alike_asked (each_stream stream) source register_waits take_waits old before _ cx left asks) (mark_waits before.source i marked.0 new.source marked.1)
+  alike_last old new Pending cx left h = alike_asked (each_stream stream) source register_waits take_waits old new Pending cx left h.1
 
-  alike_last : (stopped : Bool) (old new : Bounded F S) (answer : Poll (Option A)) → LastAsks polled steps marks stopped old answer new → WaitsAlike needs old.source new.source
-  alike_last stopped old new (Ready None) h = subst (λ (b : Bounded F S). WaitsAlike needs old.source b.source) (sym h.1) (alike_self needs old.source)
-  alike_last stopped old new (Ready (Some x)) h =
-      let last = h.1 in
-      let marked = last.3 in
-      alike_on needs old.source last.1.source new.source (alike_asked needs polled steps register_waits take_waits _ _ _ _ _ last.2.3) (mark_waits last.1.source last.0 marked.0 new.source marked.1)
-  alike_last stopped old new Pending h = alike_asked needs polled steps register_waits take_waits _ _ _ _ _ h.1.4
-
-  -- and so does a poll
-  pub alike_merged : (stopped : Bool) (old new : Bounded F S) (answer : Poll (Option A)) → MergeAsks polled steps marks stopped old answer new → WaitsAlike needs old.source new.source
-  alike_merged stopped old new answer h = alike_on needs old.source h.before.source new.source (alike_counts h.ended old h.before h.counts) (alike_last stopped h.before new answer h.last_count)
-
--- a registration, or none, leaves the source at the same places
-pub unless_waits : {S W : Type 0} (source : ReadySourceOf S W) (b : Bool) → ((old new : S) → source.steps.registers old new → WaitsAlike source.needs old new) → (old new : S) → (unless_registered b source).steps.registers old new → WaitsAlike source.needs old new
-unless_waits {S} source true waits old new same = subst (λ (s : S). WaitsAlike source.needs old s) (sym same) (alike_self source.needs old)
-unless_waits source false waits old new registers = waits old new registers
+  -- a poll leaves the source at the same places
+  pub alike_merged : (old new : Bounded St S) (answer : Poll (Option A)) (cx left : Context) → PollsMergeBounded stream source old answer new cx left → WaitsAlike source.needs old.source new.source
+  alike_merged old new answer cx left it = alike_on source.needs old.source it.before.source new.source (alike_rounds it.ended old it.before cx it.task_then it.rounds) (alike_last it.before new answer it.task_then left it.last_round)
 
 module _ {St W A S : Type 0} (stream : SlotStreamOf St W A) (source : ReadySourceOf S W) where
   -- how a merge polls a group
   abbrev pub PollsOneMerge : Bool → Bounded St S → Poll (Option A) → Bounded St S → Context → Context → Type 0
   PollsOneMerge is_registered = PollsMergeBounded stream (unless_registered is_registered source)
-
-  -- one poll of a group, told of the group alone
-  pub merge_gives : (b : Bool) (old new : Bounded St S) (answer : Poll (Option A)) (cx left : Context) → PollsOneMerge b old answer new cx left → MergeGives stream.polled (unless_registered b source).steps source.marks old answer new
-  merge_gives b old new answer cx left it = (it.stopped, it.gave)
 
   -- what a group holds, by its answer
   pending_held : (b : Bool) (old new : Bounded St S) (cx left : Context) → PollsOneMerge b old Pending new cx left → 0 < held_in new
@@ -64,9 +51,9 @@ module _ {St W A S : Type 0} (stream : SlotStreamOf St W A) (source : ReadySourc
 
   -- the items that may come
   group_left : (y : A) (b : Bool) (group left : Bounded St S) (answer : Poll (Option A)) (cx after : Context) → PollsOneMerge b group answer left cx after → GroupMayGive stream.polled left y → GroupMayGive stream.polled group y
-  group_left y b group left (Ready (Some x)) cx after it may = (x ∷ may.0, rest_of stream.polled (unless_registered b source).steps source.marks group left (Ready (Some x)) (merge_gives b group left _ cx after it) may.0 (Some y) may.1)
-  group_left y b group left (Ready None) cx after it may = (may.0, ended_of stream.polled (unless_registered b source).steps source.marks group left (merge_gives b group left _ cx after it) may.0 (Some y) may.1)
-  group_left y b group left Pending cx after it may = (may.0, same_of stream.polled (unless_registered b source).steps source.marks group left Pending (merge_gives b group left _ cx after it) may.0 (Some y) may.1)
+  group_left y b group left (Ready (Some x)) cx after it may = (x ∷ may.0, rest_of stream (unless_registered b source) group left cx after (Ready (Some x)) it may.0 (Some y) may.1)
+  group_left y b group left (Ready None) cx after it may = (may.0, ended_of stream (unless_registered b source) group left cx after it may.0 (Some y) may.1)
+  group_left y b group left Pending cx after it may = (may.0, same_of stream (unless_registered b source) group left cx after Pending it may.0 (Some y) may.1)
 
   module _ (old new : Groups (Bounded St S)) (cx left : Context) where
     -- one poll of the groups
@@ -94,7 +81,7 @@ module _ {St W A S : Type 0} (stream : SlotStreamOf St W A) (source : ReadySourc
     pub group_value : (answer : Poll (Option A)) → MergesTurns answer → IfReady answer (ItemsComeFromGroups stream.polled old.listed [])
     group_value (Ready None) h = tt
     group_value (Ready (Some x)) h =
-        turns_output PollsOneMerge (λ (g : Bounded St S). GroupMayGive stream.polled g x) (group_left x) x (λ b group after c d it. ([], value_of stream.polled (unless_registered b source).steps source.marks group after (Ready (Some x)) (merge_gives b group after (Ready (Some x)) c d it))) _ _ old new cx left h
+        turns_output PollsOneMerge (λ (g : Bounded St S). GroupMayGive stream.polled g x) (group_left x) x (λ b group after c d it. ([], value_of stream (unless_registered b source) group after c d (Ready (Some x)) it)) _ _ old new cx left h
     group_value Pending h = tt
 
     pub group_rest : (answer : Poll (Option A)) → MergesTurns answer → IfReady answer (λ o. IfSome o (λ x. After (ItemsComeFromGroups stream.polled old.listed) x (ItemsComeFromGroups stream.polled new.listed)))

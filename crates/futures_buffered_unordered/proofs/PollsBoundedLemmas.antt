@@ -1,5 +1,5 @@
--- A poll of a bounded set: what it has asked so far, how it ends, and what a caller takes from its record.
-use Rattle.std.proofs.Common.{◌≡◌, ℕ, ◌+◌, ◌<◌, Bool, true, false, List, [], ◌∷◌, ◌++◌, map, length, Option, Some, None, is_some, refl, sym, ap, subst, arith, append-nil, length-set, ◌∙◌}
+-- A poll of a bounded set: what it has asked so far, how it ends, and the poll as one of a stream.
+use Rattle.std.proofs.Common.{◌≡◌, ℕ, ◌+◌, ◌<◌, true, List, [], ◌∷◌, ◌++◌, map, length, Option, Some, None, is_some, refl, sym, ap, subst, arith, append-nil, length-set, ◌∙◌}
 use Rattle.std.specs.List.{FoldsTo}
 use Rattle.std.specs.Option.{option_to_list}
 use Rattle.std.proofs.lemmas.Fn.{FoldsTo-push}
@@ -10,13 +10,12 @@ use Rattle.futures.specs.declared.task.Poll.{Poll}
 use Rattle.futures.specs.declared.task.Poll.TheVariants.{Ready, Pending}
 use Rattle.futures_buffered_core.specs.SlotMap.{Slots, value_in, held_count, slot_count, with_value}
 use Rattle.futures_buffered_table.specs.declared.answer.Taken.{Taken}
-use Rattle.futures_buffered_table.specs.declared.answer.Taken.TheVariants.{Slot, Empty, Pause}
-use Rattle.futures_buffered_unordered.specs.StreamAnswers.{StreamAnswers}
+use Rattle.futures_buffered_table.specs.declared.answer.Taken.TheVariants.{Slot}
+use Rattle.futures_buffered_unordered.specs.StreamAnswers.{StreamAnswers, stream_of}
 use Rattle.futures_buffered_unordered.specs.Held.{AllHeld, ComesFrom, EndsWith, Passes}
-use Rattle.futures_buffered_unordered.specs.FuturesUnorderedBounded.{Bounded, Asks, AsksNone, AsksUntil, EndsWaiting, PollGives, held_in, slots_in, with_empty_slot}
-use Rattle.futures_buffered_unordered.specs.Merging.{WakesIf}
+use Rattle.futures_buffered_unordered.specs.FuturesUnorderedBounded.{Bounded, held_in, with_empty_slot}
 use Rattle.futures_buffered_unordered.specs.PollsBounded.{EndsPending, PollOneOf, PollsBounded, ReadySourceOf, RegistersAndTakes, TakesNames, unless_registered}
-use Rattle.futures_buffered_unordered.proofs.HeldLemmas.{AllHeld-with, AllHeldBut-with, count-with, same-with, value_in-with_value, passes_pending}
+use Rattle.futures_buffered_unordered.proofs.HeldLemmas.{AllHeld-with, others-with, count-with, same-with, value_in-with_value, passes_pending}
 use Rattle.futures_buffered_unordered.proofs.StreamAnswersLemmas.{answers_of, covers_fewer}
 use Rattle.futures_buffered_unordered.proofs.FuturesUnorderedBoundedLemmas.{rest_of, same_of, value_of}
 
@@ -86,7 +85,7 @@ module _ {R F W A S : Type 0} (rule : PollOneOf R F W A) (source : ReadySourceOf
           covered = covers;
           kept = rw stays (λ fact holds. holds);
           pollable = tt;
-          others = AllHeldBut-with rule.can_poll slots i f2 so.pollable;
+          others = others-with rule.can_poll slots i f2 so.pollable;
           continues = λ more. AllHeld-with rule.can_poll slots i f2 so.pollable (goes more);
         }
 
@@ -155,7 +154,7 @@ module _ {R F W A S : Type 0} (rule : PollOneOf R F W A) (source : ReadySourceOf
         pollable = it.pollable;
       }
 
-  pub polls_output : (i : ℕ) (x : A) (before : Bounded F S) → RegistersAndTakes rule source old (Ready (i, x)) before cx left → new ≡ with_empty_slot before i → held_in new + 1 ≡ held_in before → slots_in new ≡ slots_in before → AllHeld rule.can_poll new.slots → PollsBounded rule source old (Ready (Some x)) new cx left
+  pub polls_output : (i : ℕ) (x : A) (before : Bounded F S) → RegistersAndTakes rule source old (Ready (i, x)) before cx left → new ≡ with_empty_slot before i → held_in new + 1 ≡ held_in before → slot_count new.slots ≡ slot_count before.slots → AllHeld rule.can_poll new.slots → PollsBounded rule source old (Ready (Some x)) new cx left
   polls_output i x before asks emptied fewer capacity pollable =
       let it = asks.takes in
       record {
@@ -169,52 +168,9 @@ module _ {R F W A S : Type 0} (rule : PollOneOf R F W A) (source : ReadySourceOf
         pollable = pollable;
       }
 
--- What a caller takes from the record of a poll, who speaks of the value alone: the relation of
--- values, by any registration that this one may be.
-module _ {R F W A S : Type 0} (rule : PollOneOf R F W A) (source : ReadySourceOf S W) (registers : S → S → Type 0) (within : (a b : S) → source.steps.registers a b → registers a b) where
-  asks_of : (old new : Bounded F S) (answer : Poll (ℕ × A)) (cx left : Context) (asks : RegistersAndTakes rule source old answer new cx left) (last : Option Taken) (slots : Slots F) → asks.takes.last ≡ last → slots ≡ asks.takes.passed
-      → Asks rule.polled (record { registers = registers; takes = source.steps.takes }) old asks.takes.names last slots new.source
-  asks_of old new answer cx left asks last slots is same =
-      record {
-        registered = asks.source_then;
-        registers_first = within old.source asks.source_then asks.registers;
-        answers = rw (← is) asks.takes.came;
-        passes = rw same asks.takes.passes;
-      }
-
-  pub until_of : (old new : Bounded F S) (answer : Poll (ℕ × A)) (cx left : Context) → RegistersAndTakes rule source old answer new cx left
-      → AsksUntil rule.polled (record { registers = registers; takes = source.steps.takes }) old answer new
-  until_of old new (Ready (i, x)) cx left asks =
-      let it = asks.takes in
-      (it.names, it.ends.0, it.passed, asks_of old new (Ready (i, x)) cx left asks (Some (Slot i)) it.passed it.ends.1 refl, it.ends.2, it.limit)
-  until_of old new Pending cx left asks =
-      let it = asks.takes in
-      let waits : EndsWaiting old.limit it.names it.last = let ended = it.ends.1 in grind arith in
-      (it.names, it.last, waits, asks_of old new Pending cx left asks it.last new.slots refl it.ends.0, it.limit)
-
-  pub gives_of : (old new : Bounded F S) (answer : Poll (Option A)) (cx left : Context) → PollsBounded rule source old answer new cx left
-      → PollGives rule.polled (record { registers = registers; takes = source.steps.takes }) old answer new
-  gives_of old new (Ready None) cx left it = (it.gave.0, it.gave.1)
-  gives_of old new (Ready (Some x)) cx left it = (it.gave.0, (it.gave.1.0, it.gave.1.1, until_of old it.gave.1.1 (Ready (it.gave.1.0, x)) cx left it.gave.1.2, it.gave.1.3))
-  gives_of old new Pending cx left it = (it.gave.0, until_of old new Pending cx left it.gave.1)
-
-  -- A pending count of names, with whether it stopped, and what it leaves of the task: `told` says
-  -- so of what a registration makes of the task.
-  pub stops_of : (told : Context → Context → Type 0) (old new : Bounded F S) (cx left : Context) → ((s : S) (then : Context) → source.registers_poll s cx then → told cx then) → RegistersAndTakes rule source old Pending new cx left
-      → (stopped : Bool) × AsksNone rule.polled (record { registers = registers; takes = source.steps.takes }) stopped old new × WakesIf stopped told cx left
-  stops_of told old new cx left tells asks = by_last asks.takes.last refl asks.takes.ends.1
-    where
-      by_last : (last : Option Taken) → asks.takes.last ≡ last → EndsPending old.limit (length asks.takes.names) last asks.task_then left
-          → (stopped : Bool) × AsksNone rule.polled (record { registers = registers; takes = source.steps.takes }) stopped old new × WakesIf stopped told cx left
-      by_last (Some Empty) is h = (false, (asks.takes.names, Some Empty, h.0, refl, asks_of old new Pending cx left asks (Some Empty) new.slots is asks.takes.ends.0, asks.takes.limit), rw h.1 (tells old.source asks.task_then asks.registers_task))
-      by_last (Some Pause) is h = (true, (asks.takes.names, Some Pause, h.0, refl, asks_of old new Pending cx left asks (Some Pause) new.slots is asks.takes.ends.0, asks.takes.limit), h.1)
-      by_last (Some (Slot i)) is h = absurd h
-      by_last None is h = (true, (asks.takes.names, None, h.0, refl, asks_of old new Pending cx left asks None new.slots is asks.takes.ends.0, asks.takes.limit), h.1)
-
 module _ {R F W A S : Type 0} (rule : PollOneOf R F W A) (source : ReadySourceOf S W) where
   -- a poll of a set is one of a stream
   pub answers_as_stream : (old new : Bounded F S) (answer : Poll (Option A)) (cx left : Context) → PollsBounded rule source old answer new cx left
-      → StreamAnswers (record { can_poll = λ (set : Bounded F S). AllHeld rule.can_poll set.slots; needs = λ (set : Bounded F S) n. (0 < held_count set.slots) × source.needs set.source n; yields = λ (set : Bounded F S). ComesFrom rule.polled set.slots }) old answer new cx left
+      → StreamAnswers (stream_of (λ set. AllHeld rule.can_poll set.slots) (λ set n. (0 < held_count set.slots) × source.needs set.source n) (λ set. ComesFrom rule.polled set.slots)) old answer new cx left
   answers_as_stream old new answer cx left it =
-      let gives = gives_of rule source source.steps.registers (λ a b h. h) old new answer cx left it in
-      answers_of _ old new answer cx left (value_of rule.polled source.steps old new answer gives) (rest_of rule.polled source.steps old new answer gives it.fewer) (same_of rule.polled source.steps old new answer gives it.same) it.pollable (covers_fewer answer left (source.needs new.source) _ (λ n waits. waits.1) it.covered) it.kept
+      answers_of _ old new answer cx left (value_of rule source old new answer cx left it) (rest_of rule source old new answer cx left it) (same_of rule source old new answer cx left it) it.pollable (covers_fewer answer left (source.needs new.source) _ (λ n waits. waits.1) it.covered) it.kept

@@ -1,5 +1,5 @@
 -- What holds of the values in slots, and what polls of them, in the order of ready slots, make of the slots.
-use Rattle.std.specs.Prelude.{◌≡◌, ◌≢◌, ℕ, List, Option, Some, None, MatchOption, IfSome}
+use Rattle.std.specs.Prelude.{◌≡◌, ℕ, List, Option, Some, None, MatchOption, IfSome}
 use Rattle.futures.specs.declared.task.Poll.{Poll}
 use Rattle.futures.specs.declared.task.Poll.TheVariants.{Ready, Pending}
 use Rattle.std.specs.List.{FoldsTo}
@@ -10,10 +10,6 @@ use Rattle.futures_buffered_core.specs.SlotMap.{Slots, value_in, held_count, wit
 -- P holds of the value in each slot that has one
 abbrev pub AllHeld : {F : Type 0} → (F → Type 0) → Slots F → Type 0
 AllHeld P m = (i : ℕ) → IfSome (value_in m i) P
-
--- P holds of the value in each slot that has one, except slot i
-abbrev pub AllHeldBut : {F : Type 0} → ℕ → (F → Type 0) → Slots F → Type 0
-AllHeldBut i P m = (j : ℕ) → j ≢ i → IfSome (value_in m j) P
 
 module _ {F A : Type 0} (polled : ℕ → F → Poll A → F → Type 0) where
   -- What ready slot i makes of the slots if it gives no output. An empty slot changes nothing. Otherwise its value is

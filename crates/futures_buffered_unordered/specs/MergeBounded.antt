@@ -1,14 +1,15 @@
 -- What the streams of a merge return over many polls.
 use Rattle.std.specs.Prelude.{◌≡◌, ℕ, ◌==◌, cond, List, [], ◌∷◌, ◌++◌, Option, Some, None, filter_map}
 use Rattle.std.specs.List.{FoldsTo}
+use Rattle.futures.specs.declared.task.context.Context.{Context}
 use Rattle.futures.specs.declared.task.Poll.{Poll}
 use Rattle.futures.specs.Runs.{Runs, seconds}
 use Rattle.futures_buffered_core.specs.SlotMap.{Slots, value_in}
-use Rattle.futures_buffered_table.specs.declared.answer.Woke.{Woke}
-use Rattle.futures_buffered_core.specs.ReadySource.{SourceSteps}
 use Rattle.futures_buffered_unordered.specs.FuturesUnorderedBounded.{Bounded, Pushes}
+use Rattle.futures_buffered_unordered.specs.PollsBounded.{ReadySourceOf}
 use Rattle.futures_buffered_unordered.specs.SlotStream.{items_in, Became}
-use Rattle.futures_buffered_unordered.specs.Merging.{MergeGives}
+use Rattle.futures_buffered_unordered.specs.StreamAnswers.{OfSomeTask}
+use Rattle.futures_buffered_unordered.specs.Merging.{PollsMergeBounded, SlotStreamOf}
 
 -- of items that are each paired with a number, the items paired with `j`
 abbrev pub items_at : {A : Type 0} → ℕ → List (ℕ × A) → List A
@@ -18,6 +19,12 @@ items_at j = filter_map (λ p. cond (p.0 == j) (Some p.1) None)
 pub data MergeEvent (F A : Type 0) : Type 0 where
   answered : Poll (Option A) → MergeEvent F A
   pushed : F → MergeEvent F A
+
+-- one poll of some task, or one push
+abbrev pub Happens : {Q F A : Type 0} → (Q → Poll (Option A) → Q → Context → Context → Type 0)
+    → (Q → F → Q → Type 0) → Q → MergeEvent F A → Q → Type 0
+Happens polls pushes old (answered answer) new = OfSomeTask polls old answer new
+Happens polls pushes old (pushed stream) new = pushes old stream new
 
 -- what the polls returned, and the streams that were pushed, each in order
 abbrev pub answers_of : {F A : Type 0} → List (MergeEvent F A) → List (Poll (Option A))
@@ -56,20 +63,6 @@ module _ {F A : Type 0} (polled : ℕ → F → Poll (Option A) → F → Type 0
       × ((j : ℕ) → value_in left j ≡ None)
       × StreamsGave m given left
 
-  -- after any polls, the items that they returned are, each with a slot, all that the streams returned
-  abbrev pub KeepsOrder : {S : Type 0} → SourceSteps S → (S → ℕ → Woke → S → Type 0) → Type 0
-  KeepsOrder {S} steps marks = (old new : Bounded F S)
-      (answers : List (Poll (Option A)))
-      → FoldsTo (MergeGives polled steps marks) old answers new
-      → (given : List (ℕ × A)) × (items_in answers ≡ seconds given)
-      × StreamsGave old.slots given new.slots
-
-  -- one poll, or one push
-  abbrev pub Happens : {S : Type 0} → SourceSteps S → (S → ℕ → Woke → S → Type 0)
-      → Bounded F S → MergeEvent F A → Bounded F S → Type 0
-  Happens steps marks old (answered answer) new = MergeGives polled steps marks old answer new
-  Happens steps marks old (pushed stream) new = Pushes marks old stream new
-
   -- The streams were pushed into slots that held `old`. The items, each with a slot, are all that the streams of that
   -- slot returned one after another: at first the stream that the slot held, and then those that were pushed into it.
   abbrev pub SlotsGaveInTurn : Slots F → List A → List F → Slots F → Type 0
@@ -79,9 +72,22 @@ module _ {F A : Type 0} (polled : ℕ → F → Poll (Option A) → F → Type 0
       × ((j : ℕ) → HeldInTurn (polled j) (value_in old j) (items_at j into)
       (items_at j given) (value_in new j))
 
-  -- after any polls and pushes, the items that the polls returned are all that the streams held at first and the pushed
-  -- streams returned
-  abbrev pub KeepsOrderWithPushes : {S : Type 0} → SourceSteps S → (S → ℕ → Woke → S → Type 0) → Type 0
-  KeepsOrderWithPushes {S} steps marks = (old new : Bounded F S) (events : List (MergeEvent F A))
-      → FoldsTo (Happens steps marks) old events new
-      → SlotsGaveInTurn old.slots (items_in (answers_of events)) (streams_of events) new.slots
+module _
+    {St W A S : Type 0}
+    (stream : SlotStreamOf St W A)
+    (source : ReadySourceOf S W)
+  where
+    -- after any polls, the items that they returned are, each with a slot, all that the streams returned
+    abbrev pub KeepsOrder : Type 0
+    KeepsOrder = (old new : Bounded St S) (answers : List (Poll (Option A)))
+        → FoldsTo (OfSomeTask (PollsMergeBounded stream source)) old answers new
+        → (given : List (ℕ × A)) × (items_in answers ≡ seconds given)
+        × StreamsGave stream.polled old.slots given new.slots
+
+    -- after any polls and pushes, the items that the polls returned are all that the streams held at first and the
+    -- pushed streams returned
+    abbrev pub KeepsOrderWithPushes : Type 0
+    KeepsOrderWithPushes = (old new : Bounded St S) (events : List (MergeEvent St A))
+        → FoldsTo (Happens (PollsMergeBounded stream source) (Pushes source.marks)) old events new
+        → SlotsGaveInTurn stream.polled old.slots
+        (items_in (answers_of events)) (streams_of events) new.slots

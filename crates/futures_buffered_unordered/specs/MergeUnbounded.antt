@@ -21,8 +21,8 @@ use Rattle.futures_buffered_unordered.specs.SlotStream.{items_in}
 use Rattle.futures_buffered_unordered.specs.StreamAnswers.{OfSomeTask}
 use Rattle.futures_buffered_unordered.specs.declared.slot_stream.SlotStream.{Ghosts as SlotStreamOf}
 use Rattle.futures_buffered_unordered.specs.Merging.{PollsMergeBounded}
-use Rattle.futures_buffered_unordered.specs.MergeBounded.{ComesFromStreams, SlotsGaveInTurn, MergeEvent}
-use Rattle.futures_buffered_unordered.specs.MergeBounded.{answered, pushed, answers_of, streams_of}
+use Rattle.futures_buffered_unordered.specs.MergeBounded.{ComesFromStreams, Happens, SlotsGaveInTurn, MergeEvent}
+use Rattle.futures_buffered_unordered.specs.MergeBounded.{answers_of, streams_of}
 
 -- no slot holds a stream
 abbrev pub HoldsNone : {F : Type 0} → Slots F → Type 0
@@ -84,17 +84,11 @@ module _
         → GroupsGaveInTurn stream.polled
         (slots_of_each old.groups.listed) (items_in answers) [] (slots_of_each new.groups.listed)
 
-    module _ (made : ℕ → S → Type 0) where
-      -- one poll, or one push
-      abbrev pub HappensInGroups : Growing St S → MergeEvent St A → Growing St S → Type 0
-      HappensInGroups old (answered answer) new = OfSomeTask PollsMergeUnbounded old answer new
-      HappensInGroups old (pushed pushed_stream) new = GrowingPushes source.marks made FIRST_GROUP old pushed_stream new
-
-      -- After any polls and pushes, the items that the polls returned are all that the streams held at first and the
-      -- pushed streams returned. The groups that pushes made held no stream at first, and come after the other groups.
-      abbrev pub KeepsOrderInGroupsWithPushes : Type 0
-      KeepsOrderInGroupsWithPushes = (old new : Growing St S) (events : List (MergeEvent St A))
-          → FoldsTo HappensInGroups old events new
-          → (added : List (Slots St)) × AllByRecursion HoldsNone added
-          × GroupsGaveInTurn stream.polled (slots_of_each old.groups.listed ++ added)
-          (items_in (answers_of events)) (streams_of events) (slots_of_each new.groups.listed)
+    -- After any polls and pushes, the items that the polls returned are all that the streams held at first and the
+    -- pushed streams returned. The groups that pushes made held no stream at first, and come after the other groups.
+    abbrev pub KeepsOrderInGroupsWithPushes : (ℕ → S → Type 0) → Type 0
+    KeepsOrderInGroupsWithPushes made = (old new : Growing St S) (events : List (MergeEvent St A))
+        → FoldsTo (Happens PollsMergeUnbounded (GrowingPushes source.marks made FIRST_GROUP)) old events new
+        → (added : List (Slots St)) × AllByRecursion HoldsNone added
+        × GroupsGaveInTurn stream.polled (slots_of_each old.groups.listed ++ added)
+        (items_in (answers_of events)) (streams_of events) (slots_of_each new.groups.listed)

@@ -1,8 +1,8 @@
 -- What one poll of a bounded set makes of the set and of the task that polls it. A clause names the rule and the source
 -- by the ghost members of their types: `R.PollOne S.ReadySource`, or `(itself F.SlotFuture) S.ReadySource` if each
 -- future is polled itself.
-use Rattle.std.specs.Prelude.{◌≡◌, ℕ, ◌+◌, ◌<◌, Bool, cond, List, ◌++◌, map, length, Option, Some, None, OnSome}
-use Rattle.std.specs.Prelude.{is_some}
+use Rattle.std.specs.Prelude.{◌≡◌, ◌≢◌, ℕ, ◌+◌, ◌<◌, Bool, cond, List, ◌++◌, map, length, Option, Some, None}
+use Rattle.std.specs.Prelude.{IfSome, OnSome, is_some}
 use Rattle.std.specs.List.{FoldsTo}
 use Rattle.std.specs.Option.{option_to_list}
 use Rattle.futures.specs.Task.{Covers, Keeps}
@@ -13,13 +13,13 @@ use Rattle.futures.specs.declared.task.Poll.TheVariants.{Ready, Pending}
 use Rattle.futures_buffered_table.specs.declared.answer.Taken.{Taken}
 use Rattle.futures_buffered_table.specs.declared.answer.Taken.TheVariants.{Slot, Empty, Pause}
 pub use Rattle.futures_buffered_core.specs.declared.ready_source.ReadySource.{Ghosts as ReadySourceOf}
-use Rattle.futures_buffered_core.specs.SlotMap.{Slots, value_in}
+use Rattle.futures_buffered_core.specs.SlotMap.{Slots, slot_count, value_in}
 use Rattle.futures_buffered_unordered.specs.declared.poll_one.PollFuture.{PollFuture}
 pub use Rattle.futures_buffered_unordered.specs.declared.poll_one.PollOne.{Ghosts as PollOneOf}
 pub use Rattle.futures_buffered_unordered.specs.declared.slot_future.SlotFuture.{Ghosts as SlotFutureOf}
-use Rattle.futures_buffered_unordered.specs.Held.{AllHeld, AllHeldBut, Passes, Yields}
-use Rattle.futures_buffered_unordered.specs.FuturesUnorderedBounded.{Bounded, IsWoken, held_in, slots_in}
-use Rattle.futures_buffered_unordered.specs.FuturesUnorderedBounded.{with_empty_slot, with_source}
+use Rattle.futures_buffered_unordered.specs.Held.{AllHeld, Passes, Yields}
+use Rattle.futures_buffered_unordered.specs.FuturesUnorderedBounded.{Bounded, IsWoken, held_in}
+use Rattle.futures_buffered_unordered.specs.FuturesUnorderedBounded.{with_empty_slot}
 
 -- the rule that polls each future itself
 abbrev pub itself : {F W A : Type 0} → SlotFutureOf F W A → PollOneOf PollFuture F W A
@@ -86,7 +86,7 @@ module _
       -- each slot holds a value if and only if it held one before; the number of slots and the limit do not change
       pub count : held_in new ≡ held_in old
       pub same_slots : (j : ℕ) → is_some (value_in new.slots j) ≡ is_some (value_in old.slots j)
-      pub capacity : slots_in new ≡ slots_in old
+      pub capacity : slot_count new.slots ≡ slot_count old.slots
       pub limit : new.limit ≡ old.limit
       -- the task is registered where the source waits, or is woken
       pub covered : Covers left (source.needs new.source)
@@ -94,7 +94,7 @@ module _
       pub kept : Keeps cx left
       -- after Pending each value may be polled again; after an output, each except the value that gave it
       pub pollable : OnPending answer (AllHeld rule.can_poll new.slots)
-      pub others : IfReady answer (λ p. AllHeldBut p.0 rule.can_poll new.slots)
+      pub others : IfReady answer (λ p. (j : ℕ) → j ≢ p.0 → IfSome (value_in new.slots j) rule.can_poll)
       -- that value may also be polled again, if `goes_on` holds of the output
       pub continues : IfReady answer (λ p. rule.goes_on p.1 → AllHeld rule.can_poll new.slots)
 
@@ -111,7 +111,7 @@ module _
       pub registers : source.steps.registers old.source source_then
       pub registers_task : source.registers_poll old.source cx task_then
       -- the round begins with this source and this task
-      pub takes : TakesNames (with_source old source_then) answer new task_then left
+      pub takes : TakesNames (record old { source = source_then }) answer new task_then left
       -- the task keeps each earlier registration and wake
       pub kept : Keeps cx left
 
@@ -138,7 +138,7 @@ module _
       pub fewer : IfReady answer (λ o. OnSome o (held_in new + 1 ≡ held_in old))
       pub same : OnPending answer (held_in new ≡ held_in old)
       -- the number of slots and the limit do not change
-      pub capacity : slots_in new ≡ slots_in old
+      pub capacity : slot_count new.slots ≡ slot_count old.slots
       pub limit : new.limit ≡ old.limit
       -- the task of a pending set is registered where its source waits, or is woken
       pub covered : OnPending answer (Covers left (source.needs new.source))

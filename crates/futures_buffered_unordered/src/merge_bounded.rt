@@ -105,7 +105,7 @@ impl<St: Drop, S: ReadySource> fmt::Debug for MergeBounded<St, S> {
 ///
 /// This is a law of the relation in the contract of a poll. Its body is empty.
 pub fn polls_keep_order<St: SlotStream<S::Waker>, S: ReadySource>()
-    ensures { KeepsOrder St.polled S.steps S.marks }
+    ensures { KeepsOrder St.SlotStream S.ReadySource }
 {}
 
 /// Says the same of polls with pushes between them. The items of a slot are those of the streams that it held one after
@@ -114,5 +114,5 @@ pub fn polls_keep_order<St: SlotStream<S::Waker>, S: ReadySource>()
 ///
 /// This is a law of the relations in the contracts of a push and of a poll. Its body is empty.
 pub fn polls_and_pushes_keep_order<St: SlotStream<S::Waker>, S: ReadySource>()
-    ensures { KeepsOrderWithPushes St.polled S.steps S.marks }
+    ensures { KeepsOrderWithPushes St.SlotStream S.ReadySource }
 {}

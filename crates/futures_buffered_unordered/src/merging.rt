@@ -1,8 +1,6 @@
 //! One poll of the streams that a bounded merge holds.
-ghost use Rattle.std.specs.Prelude.{◌<◌};
-ghost use Rattle.futures_buffered_unordered.specs.FuturesUnorderedBounded.{held_in};
 ghost use Rattle.futures_buffered_unordered.specs.PollsBounded.{RegistersAndTakes, unless_registered};
-ghost use Rattle.futures_buffered_unordered.specs.Merging.{CanAsk, CountPolls, PollsMergeBounded, each_stream};
+ghost use Rattle.futures_buffered_unordered.specs.Merging.{CanAsk, PollsMergeBounded, each_stream};
 
 use crate::merge_bounded::MergeBounded;
 use crate::slot_stream::{PollStream, SlotStream};
@@ -27,34 +25,9 @@ fn ask_streams<St: SlotStream<S::Waker>, S: ReadySource>(
     }
 }
 
-// Polls one round. Returns an item, whose stream stays and whose slot is marked; or `None` for the end of a stream,
-// which is dropped; or `Pending`.
-fn poll_count<St: SlotStream<S::Waker>, S: ReadySource>(
-    set: &mut MergeBounded<St, S>,
-    cx: &mut Context<'_>,
-    is_registered: bool,
-) -> Poll<Option<St::Item>>
-    requires { CanAsk St.SlotStream S.ReadySource set.old cx.old is_registered }
-    ensures { 0 < held_in set.old
-        → CountPolls St.SlotStream (unless_registered is_registered S.ReadySource)
-        set.old result set.new cx.old cx.new }
-{
-    match ask_streams(set, cx, is_registered) {
-        Poll::Ready((i, Some(item))) => {
-            let _woke = set.mark_slot(i);
-            Poll::Ready(Some(item))
-        }
-        Poll::Ready((i, None)) => {
-            set.empty_slot(i);
-            Poll::Ready(None)
-        }
-        Poll::Pending => Poll::Pending,
-    }
-}
-
-// Polls the merge once. Each round registers the task first, unless the task is registered for another group of the
-// merge. A further registration would hold the place of its waker, and a wake of a slot of that group would find the
-// place taken.
+// Polls the merge once, in rounds. A stream that ends is dropped, and a new round begins. Each round registers the task
+// first, unless the task is registered for another group of the merge. A further registration would hold the place of
+// its waker, and a wake of a slot of that group would find the place taken.
 pub(crate) fn poll_streams<St: SlotStream<S::Waker>, S: ReadySource>(
     set: &mut MergeBounded<St, S>,
     cx: &mut Context<'_>,
@@ -64,10 +37,13 @@ pub(crate) fn poll_streams<St: SlotStream<S::Waker>, S: ReadySource>(
     ensures { PollsMergeBounded St.SlotStream (unless_registered is_registered S.ReadySource)
         set.old result set.new cx.old cx.new }
 {
-    'counts: while !set.is_empty() {
-        match poll_count(set, cx, is_registered) {
-            Poll::Ready(Some(item)) => return Poll::Ready(Some(item)),
-            Poll::Ready(None) => {}
+    'rounds: while !set.is_empty() {
+        match ask_streams(set, cx, is_registered) {
+            Poll::Ready((i, Some(item))) => {
+                let _woke = set.mark_slot(i);
+                return Poll::Ready(Some(item));
+            }
+            Poll::Ready((i, None)) => set.empty_slot(i),
             Poll::Pending => return Poll::Pending,
         }
     }

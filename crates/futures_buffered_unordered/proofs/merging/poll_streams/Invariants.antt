@@ -3,11 +3,11 @@ use Rattle.futures.specs.Task.{Covers}
 use Rattle.futures_buffered_core.specs.SlotMap.{held_count}
 use Rattle.futures_buffered_unordered.specs.Held.{AllHeld}
 use Rattle.futures_buffered_unordered.specs.PollsBounded.{unless_registered}
-use Rattle.futures_buffered_unordered.specs.Merging.{GoesOn}
+use Rattle.futures_buffered_unordered.proofs.MergingLemmas.{GoesOn}
 use Rattle.futures_buffered_unordered.proofs.merging.poll_streams.Given as goal
 
-abbrev pub invariant-counts : goal.invariant-counts
-invariant-counts g l =
+abbrev pub invariant-rounds : goal.invariant-rounds
+invariant-rounds g l =
     let source = g.S.ReadySource in
     record {
       pollable : AllHeld g.St.SlotStream.can_poll l.set.slots;
@@ -15,5 +15,5 @@ invariant-counts g l =
       goes_on : GoesOn g.St.SlotStream (unless_registered l.fn.is_registered source) l.fn.set l.fn.cx l.set l.cx;
     }
 
-abbrev pub decreases-counts : goal.decreases-counts
-decreases-counts g l = held_count l.set.slots
+abbrev pub decreases-rounds : goal.decreases-rounds
+decreases-rounds g l = held_count l.set.slots

@@ -1,5 +1,6 @@
 use Rattle.futures_buffered_unordered.specs.PollsBounded.{unless_registered}
-use Rattle.futures_buffered_unordered.proofs.MergeUnboundedLemmas.{alike_merged, unless_waits}
+use Rattle.futures_buffered_unordered.proofs.FuturesUnorderedStreamLemmas.{unless_waits}
+use Rattle.futures_buffered_unordered.proofs.MergeUnboundedLemmas.{alike_merged}
 use Rattle.futures_buffered_unordered.proofs.merge_unbounded.AsMergeAskGroupOfStreams.ask.Goals as goal
 
 pub returns-clause-keeps : goal.returns-clause-keeps
@@ -12,7 +13,7 @@ returns-clause-keeps g c =
       fewer = it.fewer;
       pending_holds = it.pending;
       ended_is_empty = it.ends;
-      same_kind = record { same_slots = it.capacity; same_limit = it.limit; waits = alike_merged source.needs g.St.SlotStream.polled (unless_registered b source).steps source.marks (unless_waits source b waits.register_waits) waits.mark_waits waits.take_waits it.stopped _ _ _ it.gave };
+      same_kind = record { same_slots = it.capacity; same_limit = it.limit; waits = alike_merged g.St.SlotStream (unless_registered b source) (unless_waits source b waits.register_waits) waits.mark_waits waits.take_waits _ _ _ _ _ it };
     }
 
 pub returns-clause-polls : goal.returns-clause-polls
