@@ -1,4 +1,4 @@
--- From one count of names of a set to a poll of its streams.
+-- From one round of a set to a poll of its streams.
 use Rattle.std.proofs.Common.{◌≡◌, ◌+◌, ℕ, Bool, false, ◌||◌, [], ◌∷◌, ◌++◌, Option, Some, None, IfNone, OnSome, ◌<◌, refl, sym, ap, arith, ◌∙◌}
 use Rattle.futures.specs.Poll.{IfReady, OnPending}
 use Rattle.futures.specs.Task.{Covers, Keeps}
@@ -34,7 +34,7 @@ wakes_on : (registers : Context → Context → Type 0) (first then : Bool) (cx 
 wakes_on registers first then cx mid left more kept before after = grind arith
 
 module _ {St W A S : Type 0} (stream : SlotStreamOf St W A) (source : ReadySourceOf S W) where
-  -- a poll of which the first count is the last
+  -- a poll whose first round is the last
   polls_once : (old : Bounded St S) (answer : Poll (Option A)) (new : Bounded St S) (cx left : Context) (stopped : Bool) → LastAsks stream.polled source.steps source.marks stopped old answer new → WakesIf stopped (OnlyRegisters source.registers_poll) cx left → (held_in old ≡ 0 → left ≡ cx)
       → held_in new ≡ held_in old → IfReady answer (λ o. OnSome o (0 < held_in new)) → OnPending answer (0 < held_in new) → IfReady answer (λ o. IfNone o (held_in new ≡ 0)) → slots_in new ≡ slots_in old → new.limit ≡ old.limit → OnPending answer (Covers left (source.needs new.source)) → Keeps cx left → AllHeld stream.can_poll new.slots
       → PollsMergeBounded stream source old answer new cx left
@@ -63,7 +63,7 @@ module _ {St W A S : Type 0} (stream : SlotStreamOf St W A) (source : ReadySourc
     touched : held_in old ≡ 0 → after ≡ cx
     touched none = absurd (omega (arith, some, none))
 
-    -- a count that gave an item
+    -- a round that gave an item
     pub count_item : (left new : Bounded St S) (i : ℕ) (x : A) → RegistersAndTakes (each_stream stream) source old (Ready (i, Some x)) left cx after → MarksSlot source.marks left.source i new.source → new.slots ≡ left.slots → new.limit ≡ left.limit → PollsMergeBounded stream source old (Ready (Some x)) new cx after
     count_item left new i x asks marked slots limit =
         let it = asks.takes in
@@ -71,14 +71,14 @@ module _ {St W A S : Type 0} (stream : SlotStreamOf St W A) (source : ReadySourc
         let until = until_of (each_stream stream) source source.steps.registers (λ a b h. h) old left (Ready (i, Some x)) cx after asks in
         rw same (polls_once old (Ready (Some x)) (with_source left new.source) cx after false (some, (i, left, until, marked, refl), refl) (registers_once source.registers_poll cx after old.source (rw it.ends.3 asks.registers_task)) touched it.count (omega (arith, it.count, some)) tt tt it.capacity it.limit tt asks.kept (it.continues refl))
 
-    -- a count that is pending
+    -- a round that is pending
     pub count_pending : (new : Bounded St S) → RegistersAndTakes (each_stream stream) source old Pending new cx after → PollsMergeBounded stream source old Pending new cx after
     count_pending new asks =
         let it = asks.takes in
         let (stopped, gave, woken) = stops_of (each_stream stream) source source.steps.registers (λ a b h. h) (OnlyRegisters source.registers_poll) old new cx after (λ s then once. registers_once source.registers_poll cx then s once) asks in
         polls_once old Pending new cx after stopped (some, gave) woken touched it.count tt (omega (arith, it.count, some)) tt it.capacity it.limit it.covered asks.kept it.pollable
 
-    -- a count that ended a stream, and then any poll
+    -- a round that ended a stream, and then any poll
     pub count_end : (left new : Bounded St S) (i : ℕ) → RegistersAndTakes (each_stream stream) source old (Ready (i, None)) left cx after → new ≡ with_empty_slot left i → held_in new + 1 ≡ held_in left → slots_in new ≡ slots_in left → AllHeld stream.can_poll new.slots → CountPolls stream source old (Ready None) new cx after
     count_end left new i asks emptied one capacity pollable =
         let it = asks.takes in

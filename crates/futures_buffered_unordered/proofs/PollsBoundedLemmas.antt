@@ -198,7 +198,7 @@ module _ {R F W A S : Type 0} (rule : PollOneOf R F W A) (source : ReadySourceOf
   gives_of old new (Ready (Some x)) cx left it = (it.gave.0, (it.gave.1.0, it.gave.1.1, until_of old it.gave.1.1 (Ready (it.gave.1.0, x)) cx left it.gave.1.2, it.gave.1.3))
   gives_of old new Pending cx left it = (it.gave.0, until_of old new Pending cx left it.gave.1)
 
-  -- A pending count of names, with whether it stopped, and what it leaves of the task: `told` says
+  -- A pending round, with whether it stopped, and what it leaves of the task: `told` says
   -- so of what a registration makes of the task.
   pub stops_of : (told : Context → Context → Type 0) (old new : Bounded F S) (cx left : Context) → ((s : S) (then : Context) → source.registers_poll s cx then → told cx then) → RegistersAndTakes rule source old Pending new cx left
       → (stopped : Bool) × AsksNone rule.polled (record { registers = registers; takes = source.steps.takes }) stopped old new × WakesIf stopped told cx left
