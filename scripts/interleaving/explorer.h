@@ -69,7 +69,7 @@ struct thread {
     // The words that it looked at since its last yield, whether another thread changed one, and what it saw in this round and
     // in the one before.
     uint64_t seen[MOST_SEEN], round, round_before;
-    uint32_t seen_count, free_rounds, last_rounds;
+    uint32_t seen_count, free_rounds;
     int is_touched, last_event;
 };
 
