@@ -3,8 +3,8 @@ use Rattle.std.proofs.Common.{◌≡◌, ◌≢◌, ℕ, zero, suc, refl, sym, a
 use Rattle.std.specs.Prelude.{Option, Some, None}
 use Rattle.std.proofs.lemmas.Bool.{cases_eq}
 use Rattle.futures_buffered_lost_wakeup.specs.Agents.{Errand, Inside, Turn, TakesBack, LaysOut, Fills, Sibling, Writes, Has}
-use Rattle.futures_buffered_lost_wakeup.specs.Scene.{Stage, Vacant, Filling, FillingBetween, Kept, Lent, AWake, ThePoller, ASibling, word}
-use Rattle.futures_buffered_lost_wakeup.proofs.SceneLemmas.{errand_else, set_errand}
+use Rattle.futures_buffered_lost_wakeup.specs.Scene.{Stage, Vacant, Filling, FillingBetween, Kept, Lent, AWake, ThePoller, ASibling, changed, word}
+use Rattle.futures_buffered_lost_wakeup.proofs.SceneLemmas.{changed_else}
 
 -- the place as an agent has it, by where the agent is
 abbrev pub held_by_turn : Turn → Option Stage
@@ -15,11 +15,11 @@ held_by_turn _ = None
 
 abbrev pub held_by_sibling : Sibling → Option Stage
 held_by_sibling Writes = Some FillingBetween
-held_by_sibling (Has b) = Some (Lent (ASibling b))
+held_by_sibling (Has before) = Some (Lent ASibling)
 held_by_sibling _ = None
 
 abbrev pub held_by_wake : ℕ → Errand → Option Stage
-held_by_wake seat Inside = Some (Lent (AWake seat))
+held_by_wake seat (Inside task) = Some (Lent (AWake seat))
 held_by_wake seat _ = None
 
 abbrev pub held_by : Turn → Sibling → (ℕ → Errand) → ℕ → Option Stage
@@ -32,17 +32,17 @@ abbrev pub holder : Stage → Option ℕ
 holder Vacant = None
 holder Filling = Some 0
 holder FillingBetween = Some 1
-holder Kept = None
+holder (Kept task) = None
 holder (Lent (AWake seat)) = Some (suc (suc seat))
 holder (Lent ThePoller) = Some 0
-holder (Lent (ASibling b)) = Some 1
+holder (Lent ASibling) = Some 1
 
 -- the place is as the agent that has it says, and no other has it
 pub record Agrees (held : ℕ → Option Stage) (stage : Stage) : Type 0 where
   pub tells : (agent : ℕ) (x : Stage) → held agent ≡ Some x → (stage ≡ x) × (holder stage ≡ Some agent)
   pub told : (agent : ℕ) → holder stage ≡ Some agent → held agent ≡ Some stage
 
-some_same : {X : Type 0} (x y : X) → Some x ≡ Some y → x ≡ y
+pub some_same : {X : Type 0} (x y : X) → Some x ≡ Some y → x ≡ y
 some_same x y is = cc
 
 -- one agent goes on
@@ -92,22 +92,14 @@ sibling_else turn sibling sibling' errands (suc zero) ne = absurd (ne refl)
 sibling_else turn sibling sibling' errands (suc (suc seat)) ne = refl
 
 pub wake_else : (turn : Turn) (sibling : Sibling) (errands : ℕ → Errand) (seat : ℕ) (errand : Errand) (other : ℕ) → other ≢ suc (suc seat)
-    → held_by turn sibling (set_errand errands seat errand) other ≡ held_by turn sibling errands other
+    → held_by turn sibling (changed errands seat errand) other ≡ held_by turn sibling errands other
 wake_else turn sibling errands seat errand zero ne = refl
 wake_else turn sibling errands seat errand (suc zero) ne = refl
-wake_else turn sibling errands seat errand (suc (suc other)) ne = ap (held_by_wake other) (errand_else errands seat errand other (λ e. ne (ap (λ (k : ℕ). suc (suc k)) e)))
+wake_else turn sibling errands seat errand (suc (suc other)) ne = ap (held_by_wake other) (changed_else errands seat errand other (λ e. ne (ap (λ (k : ℕ). suc (suc k)) e)))
 
--- nobody has a place whose word says that a waker is kept
-pub kept_at : (stage : Stage) → word stage ≡ 1 → stage ≡ Kept
-kept_at Kept is = refl
-kept_at Vacant is = absurd cc
-kept_at Filling is = absurd cc
-kept_at FillingBetween is = absurd cc
-kept_at (Lent who) is = absurd cc
-
--- nor one whose word says that none is kept, unless the poller or a sibling fills it
+-- nobody has a place whose word says that none is kept, unless the poller or a sibling fills it
 pub vacant_at : (stage : Stage) → word stage ≡ 0 → (stage ≡ Filling → ⊥) → (stage ≡ FillingBetween → ⊥) → stage ≡ Vacant
-vacant_at Kept is none none_between = absurd cc
+vacant_at (Kept task) is none none_between = absurd cc
 vacant_at Vacant is none none_between = refl
 vacant_at Filling is none none_between = absurd (none refl)
 vacant_at FillingBetween is none none_between = absurd (none_between refl)

@@ -1,6 +1,6 @@
 -- The steps at the list keep a scene too, and so no wake is lost.
-use Rattle.std.proofs.Common.{◌≡◌, ℕ, zero, suc, ◌<◌, List, [], ◌∷◌, ◌++◌, true, false, map, get_or, refl, sym, ap, ◌∙◌, subst, inl, inr, ⊎_elim, arith, append-nil}
-use Rattle.std.specs.Prelude.{◌==◌, Some, None}
+use Rattle.std.proofs.Common.{◌≡◌, ◌≢◌, ◌⊎◌, ℕ, zero, suc, ◌<◌, Bool, List, [], ◌∷◌, ◌++◌, true, false, map, get_or, refl, sym, ap, ◌∙◌, subst, inl, inr, ⊎_elim, arith, append-nil}
+use Rattle.std.specs.Prelude.{◌==◌, Option, Some, None}
 use Rattle.futures_buffered_table.proofs.Common.{outside_by, mark, next_role, next_view, reply_of_role, first_poller, new_waker_beside, role_of, spent_view, CanStep, seat_of, slot_of, after_step, found_at, view_at, set_else, set_here, get_or-map, some, some-injective, get_elem?}
 use Rattle.std.proofs.lemmas.Bool.{cases_lt}
 use Rattle.futures_buffered_table.specs.declared.answer.Taken.TheVariants.{Slot, Empty, Pause}
@@ -18,11 +18,11 @@ use Rattle.futures_buffered_table.proofs.RowLemmas.{in_hand, put_by, row_slots, 
 use Rattle.futures_buffered_table.proofs.ScheduleLemmas.{IsReachable, pending, reachable_start, step_reaches}
 use Rattle.futures_buffered_table.proofs.EffectLemmas.{IsPolls, role_polls}
 use Rattle.futures_buffered_lost_wakeup.specs.Agents.{Rests, Looks, Turn, Parked, Registers, Asks, Met, Sibling, Away, Writes, LetsGo}
-use Rattle.futures_buffered_lost_wakeup.specs.Scene.{Scene, Stage, Vacant, Lent, ASibling, Event, InList, WakeDoes, PollerDoes, SiblingDoes, WakeWakes, PollerWakes, SiblingWakes, FromSibling}
-use Rattle.futures_buffered_lost_wakeup.specs.Scene.{Begin, KeepOwn, Lacks, Misses, Stop, MakesSibling, AllRest, CanDo, IsAtStart, IsAtStub, IsBetween, Legal, NoWakeIsLost, after, after_reply, first, owner, poller_role, run, with_errand}
-use Rattle.futures_buffered_lost_wakeup.proofs.SceneLemmas.{IsEmpty, IsTaken, IsWoke, empty_at_stub, hand_at_start, none_at_stub, polls_wake_none, stub_polls, taken_starts, times_none}
-use Rattle.futures_buffered_lost_wakeup.proofs.HolderLemmas.{held_by, held_by_sibling, holder}
-use Rattle.futures_buffered_lost_wakeup.proofs.SceneInvariantLemmas.{ArmedIn, Busy, IsKept, IsReplaced, IsSwapped, IsWaiting, Seen, SwapsIn, Waits, armed_by, asks_heard, heard, way_here, woken_heard}
+use Rattle.futures_buffered_lost_wakeup.specs.Scene.{Scene, Stage, Vacant, Event, InList, WakeDoes, PollerDoes, SiblingDoes, WakeWakes, PollerWakes, SiblingWakes, FromSibling}
+use Rattle.futures_buffered_lost_wakeup.specs.Scene.{Begin, DropsOther, KeepOwn, Lacks, Misses, Stop, MakesSibling, IsDropped, AllRest, CanDo, IsAtStart, IsAtStub, IsBetween, Legal, NoWakeIsLost, after, after_reply, first, owner, changed, poller_role, run, with_errand, with_woken}
+use Rattle.futures_buffered_lost_wakeup.proofs.SceneLemmas.{IsEmpty, IsTaken, IsWoke, changed_here, empty_at_stub, hand_at_start, none_at_stub, polls_wake_none, stub_polls, taken_starts, times_none, woken_by, woken_stays}
+use Rattle.futures_buffered_lost_wakeup.proofs.HolderLemmas.{Agrees, held_by, held_by_turn}
+use Rattle.futures_buffered_lost_wakeup.proofs.SceneInvariantLemmas.{ArmedIn, Busy, Heads, Heard, IsKept, IsSwapped, IsWaiting, Owned, WakesNext, Seen, SiblingDrops, SwapsIn, Waits, armed_by, way_here}
 use Rattle.futures_buffered_lost_wakeup.proofs.PlaceLemmas.{poller_goes, poller_kept, sibling_kept, sibling_moves, turn_moves, wake_kept, wake_on_way, wake_wakes}
 
 -- a step of the list, by a wake: how the row goes on
@@ -47,7 +47,8 @@ module _ (n : ℕ) (s : Scene) (kept : IsKept n s) (step : Step) (low : seat_of 
       → (on : IsReachable n (after_step n s.list step))
       → pending n s.list kept.reach ++ put_by (view_at s.list step).role ≡ in_hand (view_at s.list step).role ++ pending n (after_step n s.list step) on
       → Seen n (record s { list = after_step n s.list step }) on
-  seen_still no_put no_answer not_swapped on flow parked asleep = grind (arith, pending, append-nil, still_swaps)
+  seen_still no_put no_answer not_swapped on flow parked asleep = ⊎_elim (λ none. inl (let is : pending n (after_step n s.list step) on ≡ pending n s.list kept.reach = grind (arith, pending, append-nil) in is ∙ none))
+      (⊎_elim (λ way. inr (inl way)) (λ swaps. inr (inr (still_swaps not_swapped swaps)))) (kept.seen parked asleep)
 
   listed_kept : (on : IsReachable n (after_step n s.list step)) → Seen n (record s { list = after_step n s.list step }) on → IsKept n (record s { list = after_step n s.list step })
   listed_kept on seen = record {
@@ -55,8 +56,7 @@ module _ (n : ℕ) (s : Scene) (kept : IsKept n s) (step : Step) (low : seat_of 
     waits = still_waits;
     agrees = kept.agrees;
     parked = kept.parked;
-    own = kept.own;
-    armed = armed_by s.turn s (record s { list = after_step n s.list step }) (λ a. a) (λ own. own) kept.armed;
+    armed = armed_by s.turn s (record s { list = after_step n s.list step }) (λ a. a) (λ w. w) refl refl kept.armed;
     seen = seen;
   }
 
@@ -65,7 +65,7 @@ module _ (n : ℕ) (s : Scene) (kept : IsKept n s) (step : Step) (low : seat_of 
 
   -- the slot is in the row from here on, and this wake is on its way to the place
   puts_in : (slot : ℕ) → (view_at s.list step).role ≡ Cleared slot → (on : IsReachable n (after_step n s.list step)) → Goes More
-  puts_in slot is on = listed_kept on (λ parked asleep. inr (inr (inl (
+  puts_in slot is on = listed_kept on (λ parked asleep. inr (inr (
     seat_of step,
     low,
     (
@@ -73,29 +73,27 @@ module _ (n : ℕ) (s : Scene) (kept : IsKept n s) (step : Step) (low : seat_of 
       set_here s.list.views (seat_of step) new_view (place_low s.list.views (seat_of step) (view_at s.list step) there),
       subst (λ (role : Role). IsSwapped (next_role (view_at s.list step).stub (slot_of step) role (found_at n s.list step))) (sym is) tt,
     ),
-  ))))
+  )))
 
   -- its link is written: it goes to the place, unless it is the owner's
   arrives : (on : IsReachable n (after_step n s.list step)) → Goes (Woke Fresh)
-  arrives on = by_test (IsKept n) (seat_of step == owner) (record s { list = after_step n s.list step; woken = true })
+  arrives on = by_test (IsKept n) (seat_of step == owner) (with_woken (record s { list = after_step n s.list step }) s.task)
       (with_errand (record s { list = after_step n s.list step }) (seat_of step) Looks)
       (λ _. record {
         reach = on;
         waits = still_waits;
         agrees = kept.agrees;
         parked = kept.parked;
-        own = kept.own;
-        armed = armed_by s.turn s (record s { list = after_step n s.list step; woken = true }) (λ _. inl (woken_heard s.turn s.sibling)) (λ own. own) kept.armed;
-        seen = λ parked asleep. let c : true ≡ false = sym (woken_heard s.turn s.sibling) ∙ asleep in absurd cc;
+        armed = armed_by s.turn s (with_woken (record s { list = after_step n s.list step }) s.task) (λ _. inl (inl (changed_here s.woken s.task true))) (λ _. changed_here s.woken s.task true) refl refl kept.armed;
+        seen = λ parked asleep. absurd (asleep (inl (changed_here s.woken s.task true)));
       })
-      (λ _. let way = wake_on_way n s kept (seat_of step) Rests Looks between.0 (λ z. cc) (λ z. cc) refl refl in record {
+      (λ _. let way = wake_on_way n s kept (seat_of step) Rests Looks between.0 (λ c. c) tt refl refl in record {
         reach = on;
         waits = still_waits;
         agrees = way.agrees;
         parked = kept.parked;
-        own = kept.own;
-        armed = armed_by s.turn (with_errand s (seat_of step) Looks) (with_errand (record s { list = after_step n s.list step }) (seat_of step) Looks) (λ a. a) (λ own. own) way.armed;
-        seen = λ parked asleep. inr (inl (way_here s.errands (seat_of step) Looks (λ z. cc)));
+        armed = armed_by s.turn (with_errand s (seat_of step) Looks) (with_errand (record s { list = after_step n s.list step }) (seat_of step) Looks) (λ a. a) (λ w. w) refl refl way.armed;
+        seen = λ parked asleep. inr (inl (way_here s.task s.errands (seat_of step) Looks tt));
       })
 
   by_role : (role : Role) (found : ℕ) → (view_at s.list step).role ≡ role → (on : IsReachable n (after_step n s.list step))
@@ -114,7 +112,7 @@ module _ (n : ℕ) (s : Scene) (kept : IsKept n s) (step : Step) (low : seat_of 
       by_role (view_at s.list step).role (found_at n s.list step) refl stays.0 stays.1
 
 -- and by the poller
-module _ (n : ℕ) (s : Scene) (kept : IsKept n s) (asks : s.turn ≡ Asks) (laid_out : IsAtStub (poller_role s) → s.own ≡ false) where
+module _ (n : ℕ) (s : Scene) (kept : IsKept n s) (asks : s.turn ≡ Asks) (laid_out : IsAtStub (poller_role s) → s.own ≡ None) where
   poll_there : get_elem? s.list.views WAKE_SEATS ≡ some (view_at s.list Poll)
   poll_there = elem_at s.list.views WAKE_SEATS spent_view (let a = kept.reach.1 in omega arith)
 
@@ -133,8 +131,7 @@ module _ (n : ℕ) (s : Scene) (kept : IsKept n s) (asks : s.turn ≡ Asks) (lai
     waits = λ w. absurd (subst IsWaiting asks w);
     agrees = kept.agrees;
     parked = kept.parked;
-    own = kept.own;
-    armed = armed_by s.turn s (record s { list = after_step n s.list Poll }) (λ a. a) (λ own. own) kept.armed;
+    armed = armed_by s.turn s (record s { list = after_step n s.list Poll }) (λ a. a) (λ w. w) refl refl kept.armed;
     seen = λ parked. let c : Asks ≡ Parked = sym asks ∙ parked in absurd cc;
   }
 
@@ -153,24 +150,23 @@ module _ (n : ℕ) (s : Scene) (kept : IsKept n s) (asks : s.turn ≡ Asks) (lai
         waits = starts taken;
         agrees = turn_moves n s kept Asks Parked asks refl refl;
         parked = λ _. refl;
-        own = λ own. absurd own;
-        armed = ⊎_elim (λ (own : s.own ≡ true). let c : true ≡ false = sym own ∙ laid_out at_stub.0 in absurd cc)
-            (⊎_elim (λ woken. inl (asks_heard s.sibling s.woken ∙ (ap (λ turn. heard turn s.sibling s.woken) (sym asks) ∙ woken))) (λ a. inr a))
+        armed = ⊎_elim (λ (own : s.own ≡ Some s.task). let c : None ≡ Some s.task = sym (laid_out at_stub.0) ∙ own in absurd cc)
+            (⊎_elim (λ woken. inl (inl woken)) (λ none. ⊎_elim
+            (⊎_elim (λ woken. inl (inl woken)) (⊎_elim (λ d. inl (inr (inl d))) (λ d. absurd (subst (WakesNext s.task) asks d)))) (λ a. inr a) none.1))
             (subst (λ (turn : Turn). ArmedIn turn s) asks kept.armed);
         seen = λ parked asleep. inl (sym (λ k. nothing.1 k ++ pending n (after_step n s.list Poll) on) ∙ (sym flow
             ∙ ((λ k. none_pending empty k ++ nothing.0 k))));
       }
 
   ends_paused : IsReachable n (after_step n s.list Poll) → IsTaken (reply_of_role n (view_at s.list Poll).role (found_at n s.list Poll))
-      → IsKept n (record s { list = after_step n s.list Poll; turn = Parked; woken = true })
+      → IsKept n (record (with_woken s s.task) { list = after_step n s.list Poll; turn = Parked })
   ends_paused on taken = record {
     reach = on;
     waits = starts taken;
     agrees = turn_moves n s kept Asks Parked asks refl refl;
     parked = λ _. refl;
-    own = λ own. absurd own;
-    armed = inl (woken_heard Parked s.sibling);
-    seen = λ parked asleep. let c : true ≡ false = sym (woken_heard Parked s.sibling) ∙ asleep in absurd cc;
+    armed = inl (inl (changed_here s.woken s.task true));
+    seen = λ parked asleep. absurd (asleep (inl (changed_here s.woken s.task true)));
   }
 
   by_reply : (reply : StepReply) → reply_of_role n (view_at s.list Poll).role (found_at n s.list Poll) ≡ reply → (on : IsReachable n (after_step n s.list Poll))
@@ -187,44 +183,63 @@ module _ (n : ℕ) (s : Scene) (kept : IsKept n s) (asks : s.turn ≡ Asks) (lai
       let stays = step_reaches n s.list kept.reach Poll tt in
       by_reply (reply_of_role n (view_at s.list Poll).role (found_at n s.list Poll)) refl stays.0 stays.1
 
--- what the task, its poll and a sibling do besides
+-- what the tasks, their polls and a sibling do besides
 module _ (n : ℕ) (s : Scene) (kept : IsKept n s) where
-  never_asleep : (turn : Turn) (sibling : Sibling) {X : Type 0} → heard turn sibling true ≡ false → X
-  never_asleep turn sibling asleep = let c : true ≡ false = sym (woken_heard turn sibling) ∙ asleep in absurd cc
+  abbrev told : changed s.woken s.task true s.task ≡ true
+  told = changed_here s.woken s.task true
 
-  begins : s.turn ≡ Parked → s.sibling ≡ Away → IsKept n (record s { turn = Registers; woken = false })
-  begins is away = record {
+  begins : (task : ℕ) (own : Option ℕ) → s.turn ≡ Parked → s.sibling ≡ Away → IsKept n (record s { turn = Registers; task = task; own = own; woken = changed s.woken task false })
+  begins task own is away = record {
     reach = kept.reach;
     waits = λ _. kept.waits (subst IsWaiting (sym is) tt);
     agrees = turn_moves n s kept Parked Registers is refl refl;
     parked = λ writes. let c : Away ≡ Writes = sym away ∙ writes in absurd cc;
-    own = λ own. absurd own;
     armed = tt;
     seen = λ parked asleep. absurd cc;
   }
 
-  stops : s.turn ≡ Asks → IsAtStart (poller_role s) → IsKept n (record s { turn = Parked; woken = true })
+  stops : s.turn ≡ Asks → IsAtStart (poller_role s) → IsKept n (record (with_woken s s.task) { turn = Parked })
   stops is start = record {
     reach = kept.reach;
     waits = λ _ v at. subst (λ (u : View). IsAtStart u.role) (some-injective (view_at s.list Poll) v
         (sym (elem_at s.list.views WAKE_SEATS spent_view (let a = kept.reach.1 in omega arith)) ∙ at)) start;
     agrees = turn_moves n s kept Asks Parked is refl refl;
     parked = λ _. refl;
-    own = λ own. absurd own;
-    armed = inl (woken_heard Parked s.sibling);
-    seen = λ parked asleep. never_asleep Parked s.sibling asleep;
+    armed = inl (inl told);
+    seen = λ parked asleep. absurd (asleep (inl told));
   }
 
-  sibling_wakes : s.sibling ≡ LetsGo → IsKept n (record s { sibling = Away; woken = true })
-  sibling_wakes is = record {
+  -- the poller goes on in its poll, from a turn in which it does not have the place
+  polls : (turn turn' : Turn) (own : Option ℕ) (woken : ℕ → Bool) → s.turn ≡ turn → turn ≢ Parked → turn' ≢ Parked → (IsWaiting turn' → IsWaiting turn) → held_by_turn turn ≡ None → held_by_turn turn' ≡ None
+      → ArmedIn turn' (record s { turn = turn'; own = own; woken = woken }) → IsKept n (record s { turn = turn'; own = own; woken = woken })
+  polls turn turn' own woken is here there waiting had has armed = poller_goes n s kept turn turn' s.stage own woken is here there waiting (turn_moves n s kept turn turn' is had has) armed
+
+  stays_woken : (task : ℕ) → s.woken s.task ≡ true → changed s.woken task true s.task ≡ true
+  stays_woken task = woken_stays s.woken task s.task
+
+  -- a waker of a task is dropped, by a sibling that is then away, or elsewhere
+  dropped : (task : ℕ) (sibling : Sibling) → Agrees (held_by s.turn sibling s.errands) s.stage → (sibling ≡ Writes → s.turn ≡ Parked) → (SiblingDrops s.task s.sibling → (task ≡ s.task) ⊎ SiblingDrops s.task sibling)
+      → IsKept n (record (with_woken s task) { sibling = sibling })
+  dropped task sibling agrees parked drops = record {
     reach = kept.reach;
     waits = kept.waits;
-    agrees = sibling_moves n s kept LetsGo Away is refl refl;
-    parked = λ z. absurd cc;
-    own = kept.own;
-    armed = armed_by s.turn s (record s { sibling = Away; woken = true }) (λ _. inl (woken_heard s.turn Away)) (λ own. own) kept.armed;
-    seen = λ parked asleep. never_asleep s.turn Away asleep;
+    agrees = agrees;
+    parked = parked;
+    armed = armed_by s.turn s (record (with_woken s task) { sibling = sibling }) (⊎_elim (λ h. inl (still h)) (λ a. inr a)) (stays_woken task) refl refl kept.armed;
+    seen = λ at asleep. kept.seen at (λ h. asleep (still h));
   }
+    where
+      still : Heard s → Heard (record (with_woken s task) { sibling = sibling })
+      still = ⊎_elim (λ woken. inl (stays_woken task woken)) (⊎_elim (λ d. ⊎_elim (λ e. inl (woken_by s.woken task s.task e)) (λ now. inr (inl now)) (drops d)) (λ d. inr (inr d)))
+
+  poller_wakes : (task : ℕ) → s.turn ≡ Met task → IsKept n (record (with_woken s task) { turn = Asks })
+  poller_wakes task is = polls (Met task) Asks s.own (changed s.woken task true) is (λ z. cc) (λ z. cc) (λ w. absurd w) refl refl
+      (⊎_elim (λ own. inl own) (⊎_elim woken (λ none. ⊎_elim
+      (⊎_elim woken (⊎_elim (λ d. inr (inr (none.0, inl (inr (inl d))))) (λ d. inr (inl (woken_by s.woken task s.task (subst (WakesNext s.task) is d)))))) (λ a. inr (inr (none.0, inr a))) none.1))
+      (subst (λ (turn : Turn). ArmedIn turn s) is kept.armed))
+    where
+      woken : s.woken s.task ≡ true → Owned (record (with_woken s task) { turn = Asks })
+      woken w = inr (inl (stays_woken task w))
 
   shares : IsKept n (record s { alone = false })
   shares = record {
@@ -232,8 +247,7 @@ module _ (n : ℕ) (s : Scene) (kept : IsKept n s) where
     waits = kept.waits;
     agrees = kept.agrees;
     parked = kept.parked;
-    own = kept.own;
-    armed = armed_by s.turn s (record s { alone = false }) (λ a. a) (λ own. own) kept.armed;
+    armed = armed_by s.turn s (record s { alone = false }) (λ a. a) (λ w. w) refl refl kept.armed;
     seen = kept.seen;
   }
 
@@ -243,24 +257,22 @@ module _ (n : ℕ) (s : Scene) (kept : IsKept n s) where
   step_kept (InList (Go seat)) can = wake_step_kept n s kept (Go seat) can.0.0 can.0 can.1
   step_kept (InList Poll) can = poll_step_kept n s kept can.1.0 can.1.1
   step_kept (WakeDoes seat act) can = wake_kept n s kept seat (s.errands seat) act refl can.0 can.1
-  step_kept (PollerDoes act) can = poller_kept n s kept s.alone s.turn act refl can.0 can.2
-  step_kept (SiblingDoes act) can = sibling_kept n s kept s.alone s.sibling act refl can.3 can.2 can.0
-  step_kept (WakeWakes seat) can = wake_wakes n s kept seat can
-  step_kept PollerWakes can = poller_goes n s kept Met Asks s.stage s.own true can (λ z. cc) (λ z. cc) (λ w. absurd w) (turn_moves n s kept Met Asks can refl refl) (λ own. absurd own)
-      (inr (inl (woken_heard Asks s.sibling)))
-  step_kept SiblingWakes can = sibling_wakes can
-  step_kept (FromSibling seat) can = wake_on_way n s kept seat Rests Looks can.1 (λ z. cc) (λ z. cc) refl refl
-  step_kept Begin can = begins can.0 can.1
-  step_kept KeepOwn can = poller_goes n s kept Registers Asks s.stage true s.woken can (λ z. cc) (λ z. cc) (λ w. absurd w) (turn_moves n s kept Registers Asks can refl refl) (λ own. absurd own) (inl refl)
-  step_kept Lacks can = poller_goes n s kept Registers Asks s.stage s.own true can (λ z. cc) (λ z. cc) (λ w. absurd w) (turn_moves n s kept Registers Asks can refl refl) (λ own. absurd own)
-      (inr (inl (woken_heard Asks s.sibling)))
-  step_kept Misses can = misses can.0
-    where
-      misses : s.turn ≡ Asks → IsKept n (record s { own = false; woken = true })
-      misses is = subst (λ (turn : Turn). IsKept n (record s { turn = turn; own = false; woken = true })) (sym is)
-          (poller_goes n s kept Asks Asks s.stage false true is (λ z. cc) (λ z. cc) (λ w. absurd w) (turn_moves n s kept Asks Asks is refl refl) (λ own. absurd own) (inr (inl (woken_heard Asks s.sibling))))
+  step_kept (PollerDoes act) can = poller_kept n s kept s.alone s.own s.turn act refl refl can.0 can.1
+  step_kept (SiblingDoes mine act) can = sibling_kept n s kept s.alone mine s.sibling act refl can.3 can.2 can.0
+  step_kept (WakeWakes seat task) can = wake_wakes n s kept seat task can
+  step_kept (PollerWakes task) can = poller_wakes task can
+  step_kept (SiblingWakes task) can = dropped task Away (sibling_moves n s kept (LetsGo task) Away can refl refl) (λ z. absurd cc) (λ d. inl (subst (SiblingDrops s.task) can d))
+  step_kept (FromSibling seat) can = wake_on_way n s kept seat Rests Looks can.1 (λ c. c) tt refl refl
+  step_kept (Begin task own) can = begins task own can.0 can.1
+  step_kept (DropsOther task) can = subst (λ (turn : Turn). IsKept n (record (with_woken s task) { turn = turn; own = None })) (sym can.0)
+      (polls Registers Registers None (changed s.woken task true) can.0 (λ z. cc) (λ z. cc) (λ w. w) refl refl tt)
+  step_kept KeepOwn can = polls Registers Asks (Some s.task) s.woken can.0 (λ z. cc) (λ z. cc) (λ w. absurd w) refl refl (inl refl)
+  step_kept Lacks can = polls Registers Asks s.own (changed s.woken s.task true) can (λ z. cc) (λ z. cc) (λ w. absurd w) refl refl (inr (inl told))
+  step_kept Misses can = subst (λ (turn : Turn). IsKept n (record (with_woken s s.task) { turn = turn; own = None })) (sym can)
+      (polls Asks Asks None (changed s.woken s.task true) can (λ z. cc) (λ z. cc) (λ w. absurd w) refl refl (inr (inl told)))
   step_kept Stop can = stops can.0 can.1
   step_kept MakesSibling can = shares
+  step_kept (IsDropped task) can = dropped task s.sibling kept.agrees kept.parked (λ d. inr d)
 
 run_kept : (n : ℕ) (s : Scene) → IsKept n s → (events : List Event) → Legal n s events → IsKept n (run n s events)
 run_kept n s kept [] legal = kept
@@ -272,9 +284,8 @@ first_kept n = record {
   waits = λ _ v at. subst (λ (u : View). IsAtStart u.role) (some-injective (first_poller n) v (sym (last_at WAKE_SEATS (new_waker_beside (first_poller n)) (first_poller n)) ∙ at)) tt;
   agrees = record { tells = none_holds; told = λ agent is. absurd cc };
   parked = λ is. absurd cc;
-  own = λ own. absurd own;
-  armed = inl refl;
-  seen = λ parked asleep. absurd cc;
+  armed = inl (inl refl);
+  seen = λ parked asleep. absurd (asleep (inl refl));
 }
   where
     none_holds : (agent : ℕ) (x : Stage) → held_by Parked Away (λ _. Rests) agent ≡ Some x → (Vacant ≡ x) × (None ≡ Some agent)
@@ -293,15 +304,9 @@ module _ (n : ℕ) (s : Scene) (kept : IsKept n s) (rest : AllRest s) (away : s.
   none_outside : (e : ℕ) (seat : ℕ) (v : View) → get_elem? s.list.views seat ≡ some v → outside_by n e v.role ≡ 0
   none_outside e seat v at = grind (arith, cases_lt, idle, place_low)
 
-  not_replaced : (stage : Stage) → s.stage ≡ stage → IsReplaced stage → ⊥
-  not_replaced (Lent (ASibling true)) is replaced =
-      let c : None ≡ Some s.stage = sym (ap held_by_sibling away) ∙ kept.agrees.told 1 (ap holder is) in cc
-  not_replaced stage is replaced = absurd replaced
-
   not_busy : Busy s → ⊥
-  not_busy (inl way) = way.1 (rest.0 way.0)
-  not_busy (inr (inl swaps)) = grind (arith, idle)
-  not_busy (inr (inr replaced)) = not_replaced s.stage refl replaced
+  not_busy (inl way) = subst (Heads s.task) (rest.0 way.0) way.1
+  not_busy (inr swaps) = grind (arith, idle)
 
   unmarked : pending n s.list kept.reach ≡ [] → (slot : ℕ) → slot < n → mark s.list.words slot ≡ 0
   unmarked none slot lt = grind (arith, hand_at_start, row_slots, times_none, total_none, none_outside)
@@ -310,4 +315,5 @@ pub no_wake_is_lost : NoWakeIsLost
 no_wake_is_lost = λ n events legal rest away parked asleep slot lt.
     let s = run n (first n) events in let kept = run_kept n (first n) (first_kept n) events legal in
     ⊎_elim (λ none. unmarked n s kept rest away parked none slot lt) (λ busy. absurd (not_busy n s kept rest away parked busy))
-    (kept.seen parked ((λ k. heard (parked k) (away k) (asleep k))))
+    (kept.seen parked (⊎_elim (λ woken. let c : true ≡ false = sym woken ∙ asleep in absurd cc)
+    (⊎_elim (λ d. absurd (subst (SiblingDrops s.task) away d)) (λ d. absurd (subst (WakesNext s.task) parked d)))))

@@ -1,7 +1,6 @@
 -- The shapes of calls are runs of the law.
-use Rattle.std.proofs.Common.{◌≡◌, ◌≢◌, ◌⊎◌, ℕ, zero, suc, Bool, true, false, List, [], ◌∷◌, map, refl, sym, ap, ◌∙◌, subst, inl, inr, arith}
+use Rattle.std.proofs.Common.{◌≡◌, ◌≢◌, ◌⊎◌, ℕ, zero, suc, Bool, true, false, List, [], ◌∷◌, map, refl, sym, ap, ◌∙◌, subst, inl, inr}
 use Rattle.std.specs.Prelude.{◌==◌, if◌then◌else◌, Option, Some, None}
-use Rattle.std.proofs.lemmas.Bool.Decides.{nat_tests}
 use Rattle.futures_buffered_table.specs.declared.answer.Taken.{Taken as TakenAnswer}
 use Rattle.futures_buffered_table.specs.declared.answer.Taken.TheVariants.{Empty, Pause}
 use Rattle.futures_buffered_table.specs.declared.step.StepReply.{StepReply}
@@ -18,21 +17,16 @@ use Rattle.futures_buffered_table.specs.Waking.{IsWake}
 use Rattle.futures_buffered_place.specs.declared.place.Put.{Put as Answer}
 use Rattle.futures_buffered_place.specs.declared.place.Put.TheVariants.{Kept, Busy}
 use Rattle.futures_buffered_place.specs.declared.view.Deed.{Deed}
-use Rattle.futures_buffered_place.specs.declared.view.Deed.TheVariants.{Look, Win, Lose, Put}
+use Rattle.futures_buffered_place.specs.declared.view.Deed.TheVariants.{Look, Lose}
 use Rattle.futures_buffered_place.specs.History.{IsPutIn, IsTakeOut, IsMet}
 use Rattle.futures_buffered_lost_wakeup.specs.Agents.{Errand, Rests, Looks, Tries, Inside, Wakes, Turn, Registers, GoesBack, TakesBack, Asks, GoesOut, GoesFree, LaysOut, Fills, Met, Sibling, Away, GoesKept, GoesVacant, Writes, Has, LetsGo, sibling_after, turn_after, wake_after, wanted_by_sibling, wanted_by_turn}
+use Rattle.futures_buffered_lost_wakeup.proofs.SceneLemmas.{same_no, same_yes}
 use Rattle.futures_buffered_lost_wakeup.specs.Runs.{CallsAreRuns, IsListRun, IsRun, act_of, errand_with, turn_with, sibling_with}
 
 wake_runs : (n i : ℕ) (shape : List AtomicStep) (woke : WokeAnswer) → IsWake i shape woke → IsListRun n i More Idle shape (Woke woke) Idle
 wake_runs n i shape Already is = subst (λ (s : List AtomicStep). IsListRun n i More Idle s (Woke Already) Idle) (sym is) (refl, (1, refl, (refl, refl)))
 wake_runs n i shape Fresh is = subst (λ (s : List AtomicStep). IsListRun n i More Idle s (Woke Fresh) Idle) (sym is.1)
     (refl, (0, refl, (refl, (0, refl, (refl, (is.0, refl, (refl, (0, refl, (refl, refl)))))))))
-
-same_yes : (a b : ℕ) → a ≡ b → (a == b) ≡ true
-same_yes a b is = grind (arith, nat_tests)
-
-same_no : (a b : ℕ) → a ≢ b → (a == b) ≡ false
-same_no a b ne = grind (arith, nat_tests)
 
 abbrev at_rest : ℕ → Role
 at_rest head = Polls head Start
@@ -109,81 +103,92 @@ module _ (n : ℕ) (answer : TakenAnswer) (head : ℕ) where
   taking_runs h shape (inr (inl is)) = subst (λ (k : ℕ). Goes More (Polls k Start) shape) (sym is.0) (from_stub shape is.1)
   taking_runs h shape (inr (inr is)) = from_slot h shape is.0 is.1
 
-module _ (O : Type 0) where
+module _ (O : Type 0) (task_of : O → ℕ) where
   abbrev WakeRun : List (Deed O) → Errand → Type 0
-  WakeRun shape there = IsRun wake_after (λ _. 1) Looks (map act_of shape) there
+  WakeRun shape there = IsRun wake_after (λ _. 1) None Looks (map (act_of task_of) shape) there
 
   looked_away : (n : ℕ) → n ≢ 1 → WakeRun (Look n ∷ []) Rests
   looked_away zero ne = (tt, (Rests, refl, refl))
   looked_away (suc zero) ne = absurd (ne refl)
   looked_away (suc (suc n)) ne = (tt, (Rests, refl, refl))
 
-  wake_at : (shape : List (Deed O)) (outer : Option O) → IsTakeOut shape outer → WakeRun shape (errand_with outer)
-  wake_at shape (Some x) is = subst (λ (s : List (Deed O)). WakeRun s Wakes) (sym is) (tt, (Tries, refl, (tt, (Inside, refl, (tt, (Wakes, refl, refl))))))
+  wake_at : (shape : List (Deed O)) (outer : Option O) → IsTakeOut shape outer → WakeRun shape (errand_with task_of outer)
+  wake_at shape (Some x) is = subst (λ (s : List (Deed O)). WakeRun s (Wakes (task_of x))) (sym is)
+      (tt, (Tries, refl, (tt, (Inside (task_of x), refl, (tt, (Wakes (task_of x), refl, refl))))))
   wake_at shape None (n, ne, inl is) = subst (λ (s : List (Deed O)). WakeRun s Rests) (sym is) (looked_away n ne)
   wake_at shape None (n, ne, inr is) = subst (λ (s : List (Deed O)). WakeRun s Rests) (sym is) (tt, (Tries, refl, (ne, (Rests, refl, refl))))
 
-  module _ (alone : Bool) where
-    abbrev TurnRun : Turn → List (Deed O) → Turn → Type 0
-    TurnRun here shape there = IsRun (turn_after alone) wanted_by_turn here (map act_of shape) there
+  module _ (alone : Bool) (own : Option ℕ) where
+    abbrev BackRun : List (Deed O) → Type 0
+    BackRun shape = IsRun (turn_after alone own) wanted_by_turn own Registers (map (act_of task_of) shape) Registers
 
-    looked_back : (n : ℕ) → n ≢ 1 → TurnRun Registers (Look n ∷ []) Registers
+    looked_back : (n : ℕ) → n ≢ 1 → BackRun (Look n ∷ [])
     looked_back zero ne = (tt, (Registers, refl, refl))
     looked_back (suc zero) ne = absurd (ne refl)
     looked_back (suc (suc n)) ne = (tt, (Registers, refl, refl))
 
-    back : (shape : List (Deed O)) (outer : Option O) → IsTakeOut shape outer → TurnRun Registers shape Registers
-    back shape (Some x) is = subst (λ (s : List (Deed O)). TurnRun Registers s Registers) (sym is)
-        (tt, (GoesBack, refl, (tt, (TakesBack, refl, (tt, (Registers, refl, refl))))))
-    back shape None (n, ne, inl is) = subst (λ (s : List (Deed O)). TurnRun Registers s Registers) (sym is) (looked_back n ne)
-    back shape None (n, ne, inr is) = subst (λ (s : List (Deed O)). TurnRun Registers s Registers) (sym is) (tt, (GoesBack, refl, (ne, (Registers, refl, refl))))
+    back : (shape : List (Deed O)) (outer : Option O) → IsTakeOut shape outer → BackRun shape
+    back shape (Some x) is = subst BackRun (sym is) (tt, (GoesBack, refl, (tt, (TakesBack, refl, (tt, (Registers, refl, refl))))))
+    back shape None (n, ne, inl is) = subst BackRun (sym is) (looked_back n ne)
+    back shape None (n, ne, inr is) = subst BackRun (sym is) (tt, (GoesBack, refl, (ne, (Registers, refl, refl))))
 
-    looked_out : (n : ℕ) → n ≢ 0 → n ≢ 1 → TurnRun Asks (Look n ∷ []) Met
-    looked_out zero ne0 ne1 = absurd (ne0 refl)
-    looked_out (suc zero) ne0 ne1 = absurd (ne1 refl)
-    looked_out (suc (suc n)) ne0 ne1 = (tt, (Met, refl, refl))
+  module _ (x : O) where
+    abbrev mine : ℕ
+    mine = task_of x
 
-    filled_over : (x y : O) → TurnRun Asks (Look 1 ∷ Win y ∷ Put x ∷ []) Asks
-    filled_over x y = (tt, (GoesOut, refl, (tt, (LaysOut, refl, (tt, (Asks, refl, refl))))))
+    abbrev TurnRun : Bool → Turn → List (Deed O) → Type 0
+    TurnRun alone there shape = IsRun (turn_after alone (Some mine)) wanted_by_turn (Some mine) Asks (map (act_of task_of) shape) there
 
-    lost_out : (n : ℕ) → n ≢ 1 → TurnRun Asks (Look 1 ∷ Lose n ∷ []) Met
-    lost_out n ne = (tt, (GoesOut, refl, (ne, (Met, refl, refl))))
+    looked_out : (alone : Bool) (n : ℕ) → n ≢ 0 → n ≢ 1 → TurnRun alone (Met mine) (Look n ∷ [])
+    looked_out alone zero ne0 ne1 = absurd (ne0 refl)
+    looked_out alone (suc zero) ne0 ne1 = absurd (ne1 refl)
+    looked_out alone (suc (suc n)) ne0 ne1 = (tt, (Met mine, refl, refl))
 
-  lost_free : (n : ℕ) → n ≢ 0 → TurnRun false Asks (Look 0 ∷ Lose n ∷ []) Met
-  lost_free n ne = (tt, (GoesFree, refl, (ne, (Met, refl, refl))))
+    lost_free : (n : ℕ) → n ≢ 0 → TurnRun false (Met mine) (Look 0 ∷ Lose n ∷ [])
+    lost_free n ne = (tt, (GoesFree, refl, (ne, (Met mine, refl, refl))))
 
-  met_out : (alone : Bool) (shape : List (Deed O)) → IsMet alone shape → TurnRun alone Asks shape Met
-  met_out alone shape (n, inl is) = subst (λ (s : List (Deed O)). TurnRun alone Asks s Met) (sym is.2) (looked_out alone n is.0 is.1)
-  met_out alone shape (n, inr (inl is)) = subst (λ (s : List (Deed O)). TurnRun alone Asks s Met) (sym is.1) (lost_out alone n is.0)
-  met_out alone shape (n, inr (inr is)) = subst (λ (s : List (Deed O)). TurnRun alone Asks s Met) (sym is.2)
-      (subst (λ (b : Bool). TurnRun b Asks (Look 0 ∷ Lose n ∷ []) Met) (sym is.0) (lost_free n is.1))
+    met_out : (alone : Bool) (shape : List (Deed O)) → IsMet alone shape → TurnRun alone (Met mine) shape
+    met_out alone shape (n, inl is) = subst (TurnRun alone (Met mine)) (sym is.2) (looked_out alone n is.0 is.1)
+    met_out alone shape (n, inr (inl is)) = subst (TurnRun alone (Met mine)) (sym is.1) (tt, (GoesOut, refl, (is.0, (Met mine, refl, refl))))
+    met_out alone shape (n, inr (inr is)) = subst (TurnRun alone (Met mine)) (sym is.2)
+        (subst (λ (b : Bool). TurnRun b (Met mine) (Look 0 ∷ Lose n ∷ [])) (sym is.0) (lost_free n is.1))
 
-  out : (alone : Bool) (x : O) (shape : List (Deed O)) (answer : Answer O) → IsPutIn alone x shape answer → TurnRun alone Asks shape (turn_with answer)
-  out true x shape (Kept None) is = subst (λ (s : List (Deed O)). TurnRun true Asks s Asks) (sym is) (tt, (Fills, refl, (tt, (Asks, refl, refl))))
-  out false x shape (Kept None) is = subst (λ (s : List (Deed O)). TurnRun false Asks s Asks) (sym is)
-      (tt, (GoesFree, refl, (tt, (LaysOut, refl, (tt, (Asks, refl, refl))))))
-  out alone x shape (Kept (Some y)) is = subst (λ (s : List (Deed O)). TurnRun alone Asks s Asks) (sym is) (filled_over alone x y)
-  out alone x shape (Busy same) is = met_out alone shape is.1
+    out : (alone : Bool) (shape : List (Deed O)) (answer : Answer O) → IsPutIn alone x shape answer → TurnRun alone (turn_with task_of answer) shape
+    out true shape (Kept None) is = subst (TurnRun true Asks) (sym is) (tt, (Fills, refl, (refl, (Asks, refl, refl))))
+    out false shape (Kept None) is = subst (TurnRun false Asks) (sym is) (tt, (GoesFree, refl, (tt, (LaysOut, refl, (refl, (Asks, refl, refl))))))
+    out alone shape (Kept (Some y)) is = subst (TurnRun alone Asks) (sym is) (tt, (GoesOut, refl, (tt, (LaysOut, refl, (refl, (Asks, refl, refl))))))
+    out alone shape (Busy same) is = subst (λ (z : O). TurnRun alone (Met (task_of z)) shape) (sym is.0) (met_out alone shape is.1)
 
-  abbrev SiblingRun : Bool → List (Deed O) → Sibling → Type 0
-  SiblingRun alone shape there = IsRun (sibling_after alone) wanted_by_sibling Away (map act_of shape) there
+    abbrev SiblingRun : Bool → Sibling → List (Deed O) → Type 0
+    SiblingRun alone there shape = IsRun (sibling_after alone mine) wanted_by_sibling (Some mine) Away (map (act_of task_of) shape) there
 
-  looked_beside : (alone : Bool) (n : ℕ) → n ≢ 0 → n ≢ 1 → SiblingRun alone (Look n ∷ []) LetsGo
-  looked_beside alone zero ne0 ne1 = absurd (ne0 refl)
-  looked_beside alone (suc zero) ne0 ne1 = absurd (ne1 refl)
-  looked_beside alone (suc (suc n)) ne0 ne1 = (tt, (LetsGo, refl, refl))
+    looked_beside : (alone : Bool) (n : ℕ) → n ≢ 0 → n ≢ 1 → SiblingRun alone (LetsGo mine) (Look n ∷ [])
+    looked_beside alone zero ne0 ne1 = absurd (ne0 refl)
+    looked_beside alone (suc zero) ne0 ne1 = absurd (ne1 refl)
+    looked_beside alone (suc (suc n)) ne0 ne1 = (tt, (LetsGo mine, refl, refl))
 
-  lost_vacant : (n : ℕ) → n ≢ 0 → SiblingRun false (Look 0 ∷ Lose n ∷ []) LetsGo
-  lost_vacant n ne = (tt, (GoesVacant, refl, (ne, (LetsGo, refl, refl))))
+    lost_vacant : (n : ℕ) → n ≢ 0 → SiblingRun false (LetsGo mine) (Look 0 ∷ Lose n ∷ [])
+    lost_vacant n ne = (tt, (GoesVacant, refl, (ne, (LetsGo mine, refl, refl))))
 
-  beside : (alone : Bool) (x : O) (shape : List (Deed O)) (answer : Answer O) → IsPutIn alone x shape answer → SiblingRun alone shape (sibling_with answer)
-  beside true x shape (Kept None) is = subst (λ (s : List (Deed O)). SiblingRun true s Away) (sym is) (tt, (Writes, refl, (tt, (Away, refl, refl))))
-  beside false x shape (Kept None) is = subst (λ (s : List (Deed O)). SiblingRun false s Away) (sym is) (tt, (GoesVacant, refl, (tt, (Has false, refl, (tt, (Away, refl, refl))))))
-  beside alone x shape (Kept (Some y)) is = subst (λ (s : List (Deed O)). SiblingRun alone s LetsGo) (sym is) (tt, (GoesKept, refl, (tt, (Has true, refl, (tt, (LetsGo, refl, refl))))))
-  beside alone x shape (Busy same) (eq, (n, inl is)) = subst (λ (s : List (Deed O)). SiblingRun alone s LetsGo) (sym is.2) (looked_beside alone n is.0 is.1)
-  beside alone x shape (Busy same) (eq, (n, inr (inl is))) = subst (λ (s : List (Deed O)). SiblingRun alone s LetsGo) (sym is.1) (tt, (GoesKept, refl, (is.0, (LetsGo, refl, refl))))
-  beside alone x shape (Busy same) (eq, (n, inr (inr is))) = subst (λ (s : List (Deed O)). SiblingRun alone s LetsGo) (sym is.2)
-      (subst (λ (b : Bool). SiblingRun b (Look 0 ∷ Lose n ∷ []) LetsGo) (sym is.0) (lost_vacant n is.1))
+    met_beside : (alone : Bool) (shape : List (Deed O)) → IsMet alone shape → SiblingRun alone (LetsGo mine) shape
+    met_beside alone shape (n, inl is) = subst (SiblingRun alone (LetsGo mine)) (sym is.2) (looked_beside alone n is.0 is.1)
+    met_beside alone shape (n, inr (inl is)) = subst (SiblingRun alone (LetsGo mine)) (sym is.1) (tt, (GoesKept, refl, (is.0, (LetsGo mine, refl, refl))))
+    met_beside alone shape (n, inr (inr is)) = subst (SiblingRun alone (LetsGo mine)) (sym is.2)
+        (subst (λ (b : Bool). SiblingRun b (LetsGo mine) (Look 0 ∷ Lose n ∷ [])) (sym is.0) (lost_vacant n is.1))
 
-  pub calls_are_runs : CallsAreRuns O
-  calls_are_runs = record { wake = wake_runs; taking = λ n h shape answer head is. taking_runs n answer head h shape is; wake_at_place = wake_at; takes_back = back; puts_in = out; sibling_puts_in = beside }
+    beside : (alone : Bool) (shape : List (Deed O)) (answer : Answer O) → IsPutIn alone x shape answer → SiblingRun alone (sibling_with task_of answer) shape
+    beside true shape (Kept None) is = subst (SiblingRun true Away) (sym is) (tt, (Writes, refl, (refl, (Away, refl, refl))))
+    beside false shape (Kept None) is = subst (SiblingRun false Away) (sym is) (tt, (GoesVacant, refl, (tt, (Has None, refl, (refl, (Away, refl, refl))))))
+    beside alone shape (Kept (Some y)) is = let old = task_of y in
+        subst (SiblingRun alone (LetsGo old)) (sym is) (tt, (GoesKept, refl, (tt, (Has (Some old), refl, (refl, (LetsGo old, refl, refl))))))
+    beside alone shape (Busy same) is = subst (λ (z : O). SiblingRun alone (LetsGo (task_of z)) shape) (sym is.0) (met_beside alone shape is.1)
+
+  pub calls_are_runs : CallsAreRuns O task_of
+  calls_are_runs = record {
+    wake = wake_runs;
+    taking = λ n h shape answer head is. taking_runs n answer head h shape is;
+    wake_at_place = wake_at;
+    takes_back = back;
+    puts_in = λ alone x. out x alone;
+    sibling_puts_in = λ alone x. beside x alone;
+  }

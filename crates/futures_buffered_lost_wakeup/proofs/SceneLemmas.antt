@@ -1,7 +1,7 @@
--- Errands by their seats, and what a poller's role and its replies say of the row.
-use Rattle.std.proofs.Common.{◌≡◌, ◌≢◌, ℕ, ◌<◌, List, [], ◌∷◌, ◌++◌, get_or, refl, sym, ap, ◌∙◌, inl, inr, arith}
+-- Values by their numbers, and what a poller's role and its replies say of the row.
+use Rattle.std.proofs.Common.{◌≡◌, ◌≢◌, ℕ, ◌<◌, Bool, true, false, List, [], ◌∷◌, ◌++◌, get_or, refl, sym, ap, ◌∙◌, subst, inl, inr, arith}
 use Rattle.std.specs.Prelude.{◌==◌, if◌then◌else◌}
-use Rattle.std.proofs.lemmas.Bool.{cases_lt}
+use Rattle.std.proofs.lemmas.Bool.{cases_eq, cases_lt}
 use Rattle.std.proofs.lemmas.Bool.Decides.{nat_tests}
 use Rattle.futures_buffered_table.proofs.Common.{times, KeepsRow, next_role, reply_of_role, word_of_role, some, get_elem?}
 use Rattle.futures_buffered_table.specs.declared.answer.Taken.TheVariants.{Empty}
@@ -15,22 +15,30 @@ use Rattle.futures_buffered_table.specs.declared.view.Role.TheVariants.{Polls}
 use Rattle.futures_buffered_table.specs.declared.view.View.{View}
 use Rattle.futures_buffered_table.proofs.RowLemmas.{alone, in_hand, put_by, row_slots, same_else, slots_slot, slots_stub}
 use Rattle.futures_buffered_table.proofs.EffectLemmas.{IsPolls}
-use Rattle.futures_buffered_lost_wakeup.specs.Agents.{Errand}
-use Rattle.futures_buffered_lost_wakeup.specs.Scene.{IsAtStart, IsAtStub}
+use Rattle.futures_buffered_lost_wakeup.specs.Scene.{IsAtStart, IsAtStub, changed}
 
--- the errand of one seat changes
-abbrev pub set_errand : (ℕ → Errand) → ℕ → Errand → ℕ → Errand
-set_errand errands seat errand other = if other == seat then errand else errands other
+pub same_yes : (a b : ℕ) → a ≡ b → (a == b) ≡ true
+same_yes a b is = grind (arith, nat_tests)
 
-pub errand_here : (errands : ℕ → Errand) (seat : ℕ) (errand : Errand) → set_errand errands seat errand seat ≡ errand
-errand_here errands seat errand = grind (arith, nat_tests)
+pub same_no : (a b : ℕ) → a ≢ b → (a == b) ≡ false
+same_no a b ne = grind (arith, nat_tests)
 
-pub errand_else : (errands : ℕ → Errand) (seat : ℕ) (errand : Errand) (other : ℕ) → other ≢ seat → set_errand errands seat errand other ≡ errands other
-errand_else errands seat errand other ne = grind (arith, nat_tests)
+-- the value of one number changes, and no other
+pub changed_here : {A : Type 0} (values : ℕ → A) (number : ℕ) (value : A) → changed values number value number ≡ value
+changed_here values number value = ap (λ (b : Bool). if b then value else values number) (same_yes number number refl)
 
--- who has another errand than the seat that goes on keeps it
-pub errand_stays : (errands : ℕ → Errand) (seat : ℕ) (errand : Errand) (other : ℕ) (mine : Errand) → errands seat ≢ mine → errands other ≡ mine → set_errand errands seat errand other ≡ mine
-errand_stays errands seat errand other mine ne is = errand_else errands seat errand other (λ z. ne (ap errands (sym z) ∙ is)) ∙ is
+pub changed_else : {A : Type 0} (values : ℕ → A) (number : ℕ) (value : A) (other : ℕ) → other ≢ number → changed values number value other ≡ values other
+changed_else values number value other ne = ap (λ (b : Bool). if b then value else values other) (same_no other number ne)
+
+-- the task is woken, and who was woken stays so
+pub woken_by : (woken : ℕ → Bool) (task other : ℕ) → task ≡ other → changed woken task true other ≡ true
+woken_by woken task other e = subst (λ (k : ℕ). changed woken task true k ≡ true) e (changed_here woken task true)
+
+pub woken_stays : (woken : ℕ → Bool) (task other : ℕ) → woken other ≡ true → changed woken task true other ≡ true
+woken_stays woken task other is = elim (cases_eq other task) [
+  | inl e ↦ woken_by woken task other (sym e)
+  | inr ne ↦ changed_else woken task true other ne ∙ is
+]
 
 -- a reply that ends a taking leaves the poller at the start of the next
 abbrev pub IsTaken : StepReply → Type 0

@@ -1,12 +1,12 @@
 -- Who steps at the place of the task's waker: a wake, the poller, a sibling. Each may make the steps that the contracts
--- of the place name (`Deed`), of which the law forgets the values.
-use Rattle.std.specs.Prelude.{ℕ, zero, suc, Bool, true, false, if◌then◌else◌, Option, Some, None}
+-- of the place name (`Deed`). Tasks have numbers, and of a waker the law knows the task that it wakes.
+use Rattle.std.specs.Prelude.{◌≡◌, ◌≢◌, ℕ, zero, suc, Bool, if◌then◌else◌, Option, Some, None}
 use Rattle.futures_buffered_place.specs.declared.view.Deed.{Deed}
 use Rattle.futures_buffered_place.specs.declared.view.Deed.TheVariants.{Look, Win, WinFree, Lose, Put, Leave}
 
--- a step at the place, whatever its value
+-- a step at the place, with the task of the waker that it takes or leaves
 abbrev pub Act : Type 0
-Act = Deed (Unit {0})
+Act = Deed ℕ
 
 -- what a wake does next, once its slot is in the list
 pub data Errand : Type 0 where
@@ -16,10 +16,10 @@ pub data Errand : Type 0 where
   Looks : Errand
   -- it goes for the waker that it read is kept
   Tries : Errand
-  -- it has the place, and leaves it empty
-  Inside : Errand
-  -- it has the task's waker, and wakes the task
-  Wakes : Errand
+  -- it has the place and this task's waker, and leaves the place empty
+  Inside : ℕ → Errand
+  -- it has this task's waker, and wakes the task
+  Wakes : ℕ → Errand
 
 -- where the poller is
 pub data Turn : Type 0 where
@@ -41,8 +41,8 @@ pub data Turn : Type 0 where
   LaysOut : Turn
   -- the poller alone puts in: it has the place, though the word says that none is kept, and leaves its waker there
   Fills : Turn
-  -- the poller met another call at the place, and wakes its own waker
-  Met : Turn
+  -- the poller met another call at the place, and wakes its own waker, of this task
+  Met : ℕ → Turn
 
 -- where a sibling is, a source beside this one that has a waker of an earlier poll; the poller counts as one if it puts
 -- a waker in between two polls
@@ -55,10 +55,10 @@ pub data Sibling : Type 0 where
   GoesVacant : Sibling
   -- it alone puts in: it has the place, though the word says that none is kept, and leaves its waker there
   Writes : Sibling
-  -- it has the place, as the word says; the flag is set if the task's waker was kept there
-  Has : Bool → Sibling
-  -- it drops a waker of the task, or wakes its own: the task is woken either way
-  LetsGo : Sibling
+  -- it has the place, as the word says, and leaves its waker there, in place of a waker of this task or of none
+  Has : Option ℕ → Sibling
+  -- it drops the waker that it replaced, or met another call and wakes its own: this task is woken either way
+  LetsGo : ℕ → Sibling
 
 -- Each of the three functions below returns where an agent is after a step, or `None` if it makes no such step there.
 
@@ -67,43 +67,44 @@ abbrev pub wake_after : Errand → Act → Option Errand
 wake_after Looks (Look zero) = Some Rests
 wake_after Looks (Look (suc zero)) = Some Tries
 wake_after Looks (Look (suc (suc n))) = Some Rests
-wake_after Tries (Win x) = Some Inside
+wake_after Tries (Win task) = Some (Inside task)
 wake_after Tries (Lose n) = Some Rests
-wake_after Inside Leave = Some Wakes
+wake_after (Inside task) Leave = Some (Wakes task)
 wake_after _ _ = None
 
--- the poller takes a waker back when it registers, and puts its own in when it asks; `alone` says whether it alone puts
--- in
-abbrev pub turn_after : Bool → Turn → Act → Option Turn
-turn_after alone Registers (Look zero) = Some Registers
-turn_after alone Registers (Look (suc zero)) = Some GoesBack
-turn_after alone Registers (Look (suc (suc n))) = Some Registers
-turn_after alone GoesBack (Win x) = Some TakesBack
-turn_after alone GoesBack (Lose n) = Some Registers
-turn_after alone TakesBack Leave = Some Registers
-turn_after alone Asks (Look zero) = Some (if alone then Fills else GoesFree)
-turn_after alone Asks (Look (suc zero)) = Some GoesOut
-turn_after alone Asks (Look (suc (suc n))) = Some Met
-turn_after alone GoesOut (Win x) = Some LaysOut
-turn_after alone GoesOut (Lose n) = Some Met
-turn_after alone GoesFree WinFree = Some LaysOut
-turn_after alone GoesFree (Lose n) = Some Met
-turn_after alone LaysOut (Put x) = Some Asks
-turn_after alone Fills (Put x) = Some Asks
-turn_after alone _ _ = None
+-- The poller takes a waker back when it registers, and puts in the one that it has when it asks; `alone` says whether it
+-- alone puts in, and `own` whose waker it has.
+abbrev pub turn_after : Bool → Option ℕ → Turn → Act → Option Turn
+turn_after alone own Registers (Look zero) = Some Registers
+turn_after alone own Registers (Look (suc zero)) = Some GoesBack
+turn_after alone own Registers (Look (suc (suc n))) = Some Registers
+turn_after alone own GoesBack (Win task) = Some TakesBack
+turn_after alone own GoesBack (Lose n) = Some Registers
+turn_after alone own TakesBack Leave = Some Registers
+turn_after alone (Some mine) Asks (Look zero) = Some (if alone then Fills else GoesFree)
+turn_after alone (Some mine) Asks (Look (suc zero)) = Some GoesOut
+turn_after alone (Some mine) Asks (Look (suc (suc n))) = Some (Met mine)
+turn_after alone (Some mine) GoesOut (Win task) = Some LaysOut
+turn_after alone (Some mine) GoesOut (Lose n) = Some (Met mine)
+turn_after alone (Some mine) GoesFree WinFree = Some LaysOut
+turn_after alone (Some mine) GoesFree (Lose n) = Some (Met mine)
+turn_after alone (Some mine) LaysOut (Put task) = Some Asks
+turn_after alone (Some mine) Fills (Put task) = Some Asks
+turn_after alone own _ _ = None
 
--- a sibling puts its waker in, and then drops the one that it replaced
-abbrev pub sibling_after : Bool → Sibling → Act → Option Sibling
-sibling_after alone Away (Look zero) = Some (if alone then Writes else GoesVacant)
-sibling_after alone Away (Look (suc zero)) = Some GoesKept
-sibling_after alone Away (Look (suc (suc n))) = Some LetsGo
-sibling_after alone GoesKept (Win x) = Some (Has true)
-sibling_after alone GoesKept (Lose n) = Some LetsGo
-sibling_after alone GoesVacant WinFree = Some (Has false)
-sibling_after alone GoesVacant (Lose n) = Some LetsGo
-sibling_after alone Writes (Put x) = Some Away
-sibling_after alone (Has kept) (Put x) = Some (if kept then LetsGo else Away)
-sibling_after alone _ _ = None
+-- a sibling puts in the waker that it has, of the task `mine`, and then drops the one that it replaced
+abbrev pub sibling_after : Bool → ℕ → Sibling → Act → Option Sibling
+sibling_after alone mine Away (Look zero) = Some (if alone then Writes else GoesVacant)
+sibling_after alone mine Away (Look (suc zero)) = Some GoesKept
+sibling_after alone mine Away (Look (suc (suc n))) = Some (LetsGo mine)
+sibling_after alone mine GoesKept (Win task) = Some (Has (Some task))
+sibling_after alone mine GoesKept (Lose n) = Some (LetsGo mine)
+sibling_after alone mine GoesVacant WinFree = Some (Has None)
+sibling_after alone mine GoesVacant (Lose n) = Some (LetsGo mine)
+sibling_after alone mine Writes (Put task) = Some Away
+sibling_after alone mine (Has None) (Put task) = Some Away
+sibling_after alone mine (Has (Some before)) (Put task) = Some (LetsGo before)
+sibling_after alone mine _ _ = None
 
 -- the word that an agent expects if it goes for the place: it loses the place only if it finds another word
 abbrev pub wanted_by_turn : Turn → ℕ
@@ -113,3 +114,9 @@ wanted_by_turn _ = 1
 abbrev pub wanted_by_sibling : Sibling → ℕ
 wanted_by_sibling Sibling.GoesVacant = 0
 wanted_by_sibling _ = 1
+
+-- an agent loses the place only if the word is not the one that it expects, and puts in only the waker that it has
+abbrev pub IsRight : ℕ → Option ℕ → Act → Type 0
+IsRight wanted own (Lose n) = n ≢ wanted
+IsRight wanted own (Put task) = own ≡ Some task
+IsRight wanted own _ = Unit {0}
