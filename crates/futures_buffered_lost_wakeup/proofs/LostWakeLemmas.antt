@@ -20,9 +20,9 @@ use Rattle.futures_buffered_table.proofs.EffectLemmas.{IsPolls, role_polls}
 use Rattle.futures_buffered_lost_wakeup.specs.Agents.{Rests, Looks, Turn, Parked, Registers, Asks, Met, Sibling, Away, Writes, LetsGo}
 use Rattle.futures_buffered_lost_wakeup.specs.Scene.{Scene, Stage, Vacant, Event, InList, WakeDoes, PollerDoes, SiblingDoes, WakeWakes, PollerWakes, SiblingWakes, FromSibling}
 use Rattle.futures_buffered_lost_wakeup.specs.Scene.{Begin, DropsOther, KeepOwn, Lacks, Misses, Stop, MakesSibling, IsDropped, AllRest, CanDo, IsAtStart, IsAtStub, IsBetween, Legal, NoWakeIsLost, after, after_reply, first, owner, changed, poller_role, run, with_errand, with_woken}
-use Rattle.futures_buffered_lost_wakeup.proofs.SceneLemmas.{IsEmpty, IsTaken, IsWoke, changed_here, empty_at_stub, hand_at_start, none_at_stub, polls_wake_none, stub_polls, taken_starts, times_none, woken_stays}
+use Rattle.futures_buffered_lost_wakeup.proofs.SceneLemmas.{IsEmpty, IsTaken, IsWoke, changed_here, empty_at_stub, hand_at_start, none_at_stub, polls_wake_none, stub_polls, taken_starts, times_none, woken_by, woken_stays}
 use Rattle.futures_buffered_lost_wakeup.proofs.HolderLemmas.{Agrees, held_by, held_by_turn}
-use Rattle.futures_buffered_lost_wakeup.proofs.SceneInvariantLemmas.{ArmedIn, Busy, Heads, Heard, IsKept, IsSwapped, IsWaiting, Owned, PollerWakes as WakesNext, Seen, SiblingDrops, SwapsIn, Waits, armed_by, way_here}
+use Rattle.futures_buffered_lost_wakeup.proofs.SceneInvariantLemmas.{ArmedIn, Busy, Heads, Heard, IsKept, IsSwapped, IsWaiting, Owned, WakesNext, Seen, SiblingDrops, SwapsIn, Waits, armed_by, way_here}
 use Rattle.futures_buffered_lost_wakeup.proofs.PlaceLemmas.{poller_goes, poller_kept, sibling_kept, sibling_moves, turn_moves, wake_kept, wake_on_way, wake_wakes}
 
 -- a step of the list, by a wake: how the row goes on
@@ -214,17 +214,13 @@ module _ (n : ℕ) (s : Scene) (kept : IsKept n s) where
       → ArmedIn turn' (record s { turn = turn'; own = own; woken = woken }) → IsKept n (record s { turn = turn'; own = own; woken = woken })
   polls turn turn' own woken is here there waiting had has armed = poller_goes n s kept turn turn' s.stage own woken is here there waiting (turn_moves n s kept turn turn' is had has) armed
 
-  -- a waker of this task is dropped or woken: the task that polled last is told of it if it is that one
-  tells : (task : ℕ) → task ≡ s.task → changed s.woken task true s.task ≡ true
-  tells task e = subst (λ (k : ℕ). changed s.woken task true k ≡ true) e (changed_here s.woken task true)
-
   stays_woken : (task : ℕ) → s.woken s.task ≡ true → changed s.woken task true s.task ≡ true
   stays_woken task = woken_stays s.woken task s.task
 
-  -- a sibling is away, or stays where it is
-  rings : (task : ℕ) (sibling : Sibling) → Agrees (held_by s.turn sibling s.errands) s.stage → (sibling ≡ Writes → s.turn ≡ Parked) → (SiblingDrops s.task s.sibling → (task ≡ s.task) ⊎ SiblingDrops s.task sibling)
+  -- a waker of a task is dropped, by a sibling that is then away, or elsewhere
+  dropped : (task : ℕ) (sibling : Sibling) → Agrees (held_by s.turn sibling s.errands) s.stage → (sibling ≡ Writes → s.turn ≡ Parked) → (SiblingDrops s.task s.sibling → (task ≡ s.task) ⊎ SiblingDrops s.task sibling)
       → IsKept n (record (with_woken s task) { sibling = sibling })
-  rings task sibling agrees parked drops = record {
+  dropped task sibling agrees parked drops = record {
     reach = kept.reach;
     waits = kept.waits;
     agrees = agrees;
@@ -234,12 +230,12 @@ module _ (n : ℕ) (s : Scene) (kept : IsKept n s) where
   }
     where
       still : Heard s → Heard (record (with_woken s task) { sibling = sibling })
-      still = ⊎_elim (λ woken. inl (stays_woken task woken)) (⊎_elim (λ d. ⊎_elim (λ e. inl (tells task e)) (λ now. inr (inl now)) (drops d)) (λ d. inr (inr d)))
+      still = ⊎_elim (λ woken. inl (stays_woken task woken)) (⊎_elim (λ d. ⊎_elim (λ e. inl (woken_by s.woken task s.task e)) (λ now. inr (inl now)) (drops d)) (λ d. inr (inr d)))
 
   poller_wakes : (task : ℕ) → s.turn ≡ Met task → IsKept n (record (with_woken s task) { turn = Asks })
   poller_wakes task is = polls (Met task) Asks s.own (changed s.woken task true) is (λ z. cc) (λ z. cc) (λ w. absurd w) refl refl
       (⊎_elim (λ own. inl own) (⊎_elim woken (λ none. ⊎_elim
-      (⊎_elim woken (⊎_elim (λ d. inr (inr (none.0, inl (inr (inl d))))) (λ d. inr (inl (tells task (subst (WakesNext s.task) is d)))))) (λ a. inr (inr (none.0, inr a))) none.1))
+      (⊎_elim woken (⊎_elim (λ d. inr (inr (none.0, inl (inr (inl d))))) (λ d. inr (inl (woken_by s.woken task s.task (subst (WakesNext s.task) is d)))))) (λ a. inr (inr (none.0, inr a))) none.1))
       (subst (λ (turn : Turn). ArmedIn turn s) is kept.armed))
     where
       woken : s.woken s.task ≡ true → Owned (record (with_woken s task) { turn = Asks })
@@ -265,7 +261,7 @@ module _ (n : ℕ) (s : Scene) (kept : IsKept n s) where
   step_kept (SiblingDoes mine act) can = sibling_kept n s kept s.alone mine s.sibling act refl can.3 can.2 can.0
   step_kept (WakeWakes seat task) can = wake_wakes n s kept seat task can
   step_kept (PollerWakes task) can = poller_wakes task can
-  step_kept (SiblingWakes task) can = rings task Away (sibling_moves n s kept (LetsGo task) Away can refl refl) (λ z. absurd cc) (λ d. inl (subst (SiblingDrops s.task) can d))
+  step_kept (SiblingWakes task) can = dropped task Away (sibling_moves n s kept (LetsGo task) Away can refl refl) (λ z. absurd cc) (λ d. inl (subst (SiblingDrops s.task) can d))
   step_kept (FromSibling seat) can = wake_on_way n s kept seat Rests Looks can.1 (λ c. c) tt refl refl
   step_kept (Begin task own) can = begins task own can.0 can.1
   step_kept (DropsOther task) can = subst (λ (turn : Turn). IsKept n (record (with_woken s task) { turn = turn; own = None })) (sym can.0)
@@ -276,7 +272,7 @@ module _ (n : ℕ) (s : Scene) (kept : IsKept n s) where
       (polls Asks Asks None (changed s.woken s.task true) can (λ z. cc) (λ z. cc) (λ w. absurd w) refl refl (inr (inl told)))
   step_kept Stop can = stops can.0 can.1
   step_kept MakesSibling can = shares
-  step_kept (IsDropped task) can = rings task s.sibling kept.agrees kept.parked (λ d. inr d)
+  step_kept (IsDropped task) can = dropped task s.sibling kept.agrees kept.parked (λ d. inr d)
 
 run_kept : (n : ℕ) (s : Scene) → IsKept n s → (events : List Event) → Legal n s events → IsKept n (run n s events)
 run_kept n s kept [] legal = kept

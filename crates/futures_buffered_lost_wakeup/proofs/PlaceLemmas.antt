@@ -7,7 +7,7 @@ use Rattle.futures_buffered_lost_wakeup.specs.Agents.{Turn, Parked, Registers, G
 use Rattle.futures_buffered_lost_wakeup.specs.Agents.{Sibling, Away, GoesKept, GoesVacant, Writes, Has, LetsGo}
 use Rattle.futures_buffered_lost_wakeup.specs.Scene.{Scene, Stage, Vacant, Filling, FillingBetween, Kept, Lent, AWake, ThePoller, ASibling, word}
 use Rattle.futures_buffered_lost_wakeup.specs.Scene.{IsAway, IsTrueOf, changed, poller_did, sibling_did, wake_did, with_errand, with_woken}
-use Rattle.futures_buffered_lost_wakeup.proofs.SceneLemmas.{changed_here, woken_stays}
+use Rattle.futures_buffered_lost_wakeup.proofs.SceneLemmas.{changed_here, woken_by, woken_stays}
 use Rattle.futures_buffered_lost_wakeup.proofs.HolderLemmas.{Agrees, held_by, held_by_sibling, held_by_turn, held_by_wake, holder, leaves, moves, sibling_else, some_same, turn_else, vacant_at, wake_else, wins}
 use Rattle.futures_buffered_lost_wakeup.proofs.SceneInvariantLemmas.{Armed, ArmedIn, Busy, Carries, Heads, Heard, IsKept, IsWaiting, Owned, SiblingDrops, armed_by, armed_parked, some_on, way_here, way_of_armed}
 
@@ -94,7 +94,7 @@ module _ (n : ℕ) (s : Scene) (kept : IsKept n s) (seat : ℕ) where
   }
     where
       heard : task ≡ s.task → Heard (Woke task)
-      heard e = inl (subst (λ (k : ℕ). changed s.woken task true k ≡ true) e (changed_here s.woken task true))
+      heard e = inl (woken_by s.woken task s.task e)
 
       still : Heard s → Heard (Woke task)
       still = ⊎_elim (λ woken. inl (woken_stays s.woken task s.task woken)) (λ drops. inr drops)

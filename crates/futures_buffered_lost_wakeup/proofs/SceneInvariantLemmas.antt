@@ -45,13 +45,13 @@ SiblingDrops task (LetsGo other) = other ≡ task
 SiblingDrops task _ = ⊥
 
 -- the poller wakes this task next
-abbrev pub PollerWakes : ℕ → Turn → Type 0
-PollerWakes task (Met other) = other ≡ task
-PollerWakes task _ = ⊥
+abbrev pub WakesNext : ℕ → Turn → Type 0
+WakesNext task (Met other) = other ≡ task
+WakesNext task _ = ⊥
 
 -- the task that polled last is woken, or the poller wakes it next, or a sibling drops its waker
 abbrev pub Heard : Scene → Type 0
-Heard s = (s.woken s.task ≡ true) ⊎ (SiblingDrops s.task s.sibling ⊎ PollerWakes s.task s.turn)
+Heard s = (s.woken s.task ≡ true) ⊎ (SiblingDrops s.task s.sibling ⊎ WakesNext s.task s.turn)
 
 -- or a wake will wake it, or finds its waker
 abbrev pub Armed : Scene → Type 0

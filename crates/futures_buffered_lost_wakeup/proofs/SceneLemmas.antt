@@ -1,5 +1,5 @@
 -- Values by their numbers, and what a poller's role and its replies say of the row.
-use Rattle.std.proofs.Common.{◌≡◌, ◌≢◌, ℕ, ◌<◌, Bool, true, false, List, [], ◌∷◌, ◌++◌, get_or, refl, sym, ap, ◌∙◌, inl, inr, arith}
+use Rattle.std.proofs.Common.{◌≡◌, ◌≢◌, ℕ, ◌<◌, Bool, true, false, List, [], ◌∷◌, ◌++◌, get_or, refl, sym, ap, ◌∙◌, subst, inl, inr, arith}
 use Rattle.std.specs.Prelude.{◌==◌, if◌then◌else◌}
 use Rattle.std.proofs.lemmas.Bool.{cases_eq, cases_lt}
 use Rattle.std.proofs.lemmas.Bool.Decides.{nat_tests}
@@ -30,10 +30,13 @@ changed_here values number value = ap (λ (b : Bool). if b then value else value
 pub changed_else : {A : Type 0} (values : ℕ → A) (number : ℕ) (value : A) (other : ℕ) → other ≢ number → changed values number value other ≡ values other
 changed_else values number value other ne = ap (λ (b : Bool). if b then value else values other) (same_no other number ne)
 
--- who is woken stays so if another is
+-- the task is woken, and who was woken stays so
+pub woken_by : (woken : ℕ → Bool) (task other : ℕ) → task ≡ other → changed woken task true other ≡ true
+woken_by woken task other e = subst (λ (k : ℕ). changed woken task true k ≡ true) e (changed_here woken task true)
+
 pub woken_stays : (woken : ℕ → Bool) (task other : ℕ) → woken other ≡ true → changed woken task true other ≡ true
 woken_stays woken task other is = elim (cases_eq other task) [
-  | inl e ↦ ap (λ (k : ℕ). changed woken task true k) e ∙ changed_here woken task true
+  | inl e ↦ woken_by woken task other (sym e)
   | inr ne ↦ changed_else woken task true other ne ∙ is
 ]
 

@@ -1,5 +1,5 @@
-//! No wake is lost: a law over every order of the steps of any wakes and of one poller, whose polls are of any tasks;
-//! and a law that says that these are the steps of the calls.
+//! No wake is lost: a law over every order of the steps of any wakes and of one poller, which polls for any tasks; and a
+//! law that says that these are the steps of the calls.
 //!
 //! The steps at the list are those of `futures_buffered_table`, by the roles of its seats. The steps at the place of the
 //! task's waker are those that the contracts of `futures_buffered_place` name, with what each found. Of a waker only
