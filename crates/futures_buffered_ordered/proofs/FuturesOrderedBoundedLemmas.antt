@@ -13,16 +13,13 @@ use Rattle.futures.specs.declared.task.Poll.TheVariants.{Ready, Pending}
 use Rattle.futures_buffered_core.specs.SlotMap.{slot_count, held_count, no_slots}
 use Rattle.futures_buffered_table.specs.declared.answer.Taken.{Taken}
 use Rattle.futures_buffered_table.specs.declared.answer.Taken.TheVariants.{Slot, Empty, Pause}
-use Rattle.futures_buffered_core.specs.ReadySource.{SourceSteps}
 use Rattle.futures_buffered_unordered.specs.FuturesUnorderedBounded.{Bounded, held_in}
 use Rattle.futures_buffered_core.specs.declared.ready_source.ReadySource.{Ghosts as ReadySourceOf}
 use Rattle.futures_buffered_unordered.specs.declared.poll_one.PollOne.{Ghosts as PollOneOf}
 use Rattle.futures_buffered_unordered.specs.PollsBounded.{EndsPending, PollsBounded}
-use Rattle.futures_buffered_unordered.proofs.PollsBoundedLemmas.{gives_of}
 use Rattle.futures_buffered_unordered.proofs.StreamAnswersLemmas.{covers_fewer}
 use Rattle.futures_buffered_unordered.proofs.FuturesUnorderedBoundedLemmas.{poll_gave, poll_still}
-use Rattle.futures_buffered_ordered.specs.Numbered.{PollsNumbered, held_with, of_numbered}
-use Rattle.futures_buffered_unordered.specs.Groups.{outputs_in}
+use Rattle.futures_buffered_ordered.specs.Numbered.{held_with, of_numbered}
 use Rattle.futures_buffered_ordered.specs.OrderedEntries.{BesideTask, MayRefuse, Ordered, OrderedGives, SetYields, with_task}
 use Rattle.futures_buffered_ordered.specs.OrderedEntriesInvariant.{Numbering}
 use Rattle.futures_buffered_ordered.specs.FuturesOrderedBounded.{OrderedBounded, PollsOrderedBounded, SetGives, SetIsFull, SetMayGive, TakesFewNames, names_of_row, names_taken}
@@ -66,11 +63,6 @@ module _ {R F W A S : Type 0} (rule : PollOneOf R (Numbered F) W (ℕ × A)) (so
   set_empty (Ready (Some out)) poll = tt
   set_empty Pending poll = tt
 
-  pub set_fewer : (answer : Poll (Option (ℕ × A))) → PollsBounded rule source old answer new cx left → held_in new + outputs_in answer ≡ held_in old
-  set_fewer (Ready None) poll = omega (arith, ap held_in poll.gave.1)
-  set_fewer (Ready (Some out)) poll = poll.fewer
-  set_fewer Pending poll = omega (arith, poll.same)
-
   pub set_covered : (answer : Poll (Option (ℕ × A))) → PollsBounded rule source old answer new cx left → OnPending answer (Covers left (λ n. (0 < held_in new) × source.needs new.source n))
   set_covered answer poll = covers_fewer answer left (source.needs new.source) _ (λ n waits. waits.1) poll.covered
 
@@ -85,21 +77,17 @@ few_names limit count (Some Pause) cx left ends = let few = ends.0 in omega (ari
 few_names limit count (Some (Slot i)) cx left ends = absurd ends
 few_names limit count None cx left ends = let few = ends.0 in omega (arith, few)
 
-module _ {F A S : Type 0} (polled : ℕ → F → Poll A → F → Type 0) (steps : SourceSteps S) where
-  -- what the set gave it might give, and what it may still give it might give before
-  pub set_gave : (old new : Bounded (Numbered F) S) (out : ℕ × A) → SetGives polled steps old (Ready (Some out)) new → SetMayGive polled old out
-  set_gave old new out h = poll_gave (PollsNumbered polled) steps out old new h
-
-  pub set_still : (old new : Bounded (Numbered F) S) (answer : Poll (Option (ℕ × A))) → SetGives polled steps old answer new → (z : ℕ × A) → SetMayGive polled new z → SetMayGive polled old z
-  set_still old new answer h z = poll_still (PollsNumbered polled) steps z old new answer h
-
 module _ {R F W A S : Type 0} (rule : PollOneOf R F W A) (source : ReadySourceOf S W) where
-  -- the same, told of the set alone, and of the queue alone
-  pub set_gives_of : (old new : Bounded (Numbered F) S) (answer : Poll (Option (ℕ × A))) (cx left : Context) → PollsBounded (of_numbered rule) source old answer new cx left → SetGives rule.polled source.steps old answer new
-  set_gives_of old new answer cx left poll = gives_of (of_numbered rule) source source.steps.registers (λ a b h. h) old new answer cx left poll
+  -- what the set gave it might give, and what it may still give it might give before
+  pub set_gave : (old new : Bounded (Numbered F) S) (out : ℕ × A) → SetGives rule source old (Ready (Some out)) new → SetMayGive rule.polled old out
+  set_gave old new out (cx, left, poll) = poll_gave (of_numbered rule) source old new out cx left poll
 
-  pub queue_gives_of : (old new : OrderedBounded F A S) (answer : Poll (Option A)) (cx left : Context) → PollsOrderedBounded rule source old answer new cx left → OrderedGives (SetGives rule.polled source.steps) held_in old answer new
-  queue_gives_of old new answer cx left poll = gives_alone (PollsBounded (of_numbered rule) source) (SetGives rule.polled source.steps) set_gives_of held_in old new answer cx left poll.gave
+  pub set_still : (old new : Bounded (Numbered F) S) (answer : Poll (Option (ℕ × A))) → SetGives rule source old answer new → (z : ℕ × A) → SetMayGive rule.polled new z → SetMayGive rule.polled old z
+  set_still old new answer (cx, left, poll) z = poll_still (of_numbered rule) source old new z answer cx left poll
+
+  -- one poll of the queue, told of it alone
+  pub queue_gives_of : (old new : OrderedBounded F A S) (answer : Poll (Option A)) (cx left : Context) → PollsOrderedBounded rule source old answer new cx left → OrderedGives (SetGives rule source) held_in old answer new
+  queue_gives_of old new answer cx left poll = gives_alone (PollsBounded (of_numbered rule) source) (SetGives rule source) (λ a b given before after h. (before, after, h)) held_in old new answer cx left poll.gave
 
   -- a poll takes as many names as the limit is at most
   few_of_yield : (old new : Bounded (Numbered F) S) (out : ℕ × A) (cx left : Context) (h : PollsBounded (of_numbered rule) source old (Ready (Some out)) new cx left) → names_taken rule source old (Ready (Some out)) new cx left h ≤ old.limit

@@ -1,5 +1,5 @@
 -- How many futures with a number a set that grows holds, before and after its calls.
-use Rattle.std.proofs.Common.{◌≡◌, ℕ, ◌+◌, [], Option, Some, None, refl, ap, inl, inr, arith, ◌∙◌}
+use Rattle.std.proofs.Common.{◌≡◌, ℕ, ◌+◌, [], Option, Some, refl, ap, inl, inr, arith, ◌∙◌}
 use Rattle.std.proofs.lemmas.List.Sums.{sum_by-cons}
 use Rattle.futures.specs.declared.task.context.Context.{Context}
 use Rattle.futures.specs.declared.task.Poll.{Poll}
@@ -12,7 +12,7 @@ use Rattle.futures_buffered_unordered.specs.PollsBounded.{unless_registered}
 use Rattle.futures_buffered_unordered.specs.PollsGrowing.{PollsGrowing}
 use Rattle.futures_buffered_unordered.specs.StreamAnswers.{OfSomeTask}
 use Rattle.futures_buffered_unordered.proofs.FuturesUnorderedLemmas.{new_holds_none}
-use Rattle.futures_buffered_unordered.proofs.FuturesUnorderedStreamLemmas.{PollsOneGroup, gave, group_gives, still}
+use Rattle.futures_buffered_unordered.proofs.FuturesUnorderedStreamLemmas.{PollsOneGroup, gave, still}
 use Rattle.futures_buffered_unordered.proofs.GroupsLemmas.{turns_sum}
 use Rattle.futures_buffered_ordered.specs.Numbered.{NumberedPollsOf, held_with, of_numbered, outputs_with}
 use Rattle.futures_buffered_ordered.specs.OrderedEntries.{OrderedGives, PollsOrdered}
@@ -26,7 +26,7 @@ module _ {R F W A S : Type 0} (rule : PollOneOf R F W A) (source : ReadySourceOf
   pub numbers_left : (i : ℕ) (old new : Growing (Numbered F) S) (answer : Poll (Option (ℕ × A))) (cx left : Context) → PollsGrowing (of_numbered rule) source old answer new cx left → held_in_groups_with i new + outputs_with i answer ≡ held_in_groups_with i old
   numbers_left i old new answer cx left poll =
       let polled = of_numbered rule in
-      turns_sum (PollsOneGroup polled source) (held_with i) (outputs_with i) (λ b group after a c d it. numbers_polled i rule.polled (unless_registered b source).steps group after a (group_gives polled source b group after a c d it)) (λ b group after c d it. numbers_ended i rule.polled (unless_registered b source).steps group after (group_gives polled source b group after (Ready None) c d it)) refl refl _ _ old.groups answer new.groups cx left poll.groups.gave
+      turns_sum (PollsOneGroup polled source) (held_with i) (outputs_with i) (λ b group after a c d it. numbers_polled i rule (unless_registered b source) group after a c d it) (λ b group after c d it. numbers_ended i rule (unless_registered b source) group after c d it) refl refl _ _ old.groups answer new.groups cx left poll.groups.gave
 
 module _ {F S : Type 0} (made : ℕ → S → Type 0) (n limit : ℕ) (start : Growing (Numbered F) S) where
   -- a new set holds nothing

@@ -5,15 +5,18 @@ use Rattle.std.proofs.lemmas.List.{get_or_past}
 use Rattle.std.proofs.lemmas.List.Folds.{sum_by-replicate}
 use Rattle.std.proofs.lemmas.List.Sums.{sum_by-cons, sum_by-set}
 use Rattle.std.proofs.lemmas.Bool.{cases_lt}
+use Rattle.futures.specs.declared.task.context.Context.{Context}
 use Rattle.futures.specs.declared.task.Poll.{Poll}
 use Rattle.futures.specs.declared.task.Poll.TheVariants.{Ready, Pending}
 use Rattle.futures_buffered_core.specs.SlotMap.{Slots, value_in, held_count, no_slots, with_value, with_slot_freed, Inserts}
 use Rattle.futures_buffered_table.specs.declared.answer.Woke.{Woke}
-use Rattle.futures_buffered_core.specs.ReadySource.{SourceSteps}
 use Rattle.futures_buffered_unordered.specs.Held.{Passes, Yields}
-use Rattle.futures_buffered_unordered.specs.FuturesUnorderedBounded.{Bounded, Pushes, PollGives}
+use Rattle.futures_buffered_unordered.specs.FuturesUnorderedBounded.{Bounded, Pushes}
+use Rattle.futures_buffered_core.specs.declared.ready_source.ReadySource.{Ghosts as ReadySourceOf}
+use Rattle.futures_buffered_unordered.specs.declared.poll_one.PollOne.{Ghosts as PollOneOf}
+use Rattle.futures_buffered_unordered.specs.PollsBounded.{PollsBounded}
 use Rattle.futures_buffered_unordered.proofs.HeldLemmas.{value_in-with_value}
-use Rattle.futures_buffered_ordered.specs.Numbered.{PollsNumbered, has_number, held_with, one_at, outputs_with}
+use Rattle.futures_buffered_ordered.specs.Numbered.{PollsNumbered, has_number, held_with, of_numbered, one_at, outputs_with}
 use Rattle.futures_buffered_ordered.specs.declared.numbered.Numbered.{Numbered}
 
 module _ {F : Type 0} (i : ℕ) where
@@ -95,24 +98,25 @@ module _ {F A : Type 0} (i : ℕ) (polled : ℕ → F → Poll A → F → Type 
       put_there : value_in (with_value m s h.left) s ≡ Some h.left
       put_there = value_in-with_value m s h.value h.left (sym h.held)
 
-module _ {F A S : Type 0} (i : ℕ) (polled : ℕ → F → Poll A → F → Type 0) (steps : SourceSteps S) where
+module _ {R F W A S : Type 0} (i : ℕ) (rule : PollOneOf R F W A) (source : ReadySourceOf S W) (group left : Bounded (Numbered F) S) where
   -- a poll takes no number away but that of its output
-  pub numbers_polled : (group left : Bounded (Numbered F) S) (answer : Poll (Option (ℕ × A))) → PollGives (PollsNumbered polled) steps group answer left → held_with i left + outputs_with i answer ≡ held_with i group
-  numbers_polled group left (Ready None) h = omega (arith, ap (λ (b : Bounded (Numbered F) S). held_with i b) h.1)
-  numbers_polled group left (Ready (Some out)) h =
-      let asks = h.1.2 in
-      let polled_left = h.1.1 in
-      let is : held_with i left ≡ in_slots i (with_slot_freed polled_left.slots h.1.0) = ap (λ (b : Bounded (Numbered F) S). held_with i b) h.1.3 in
-      let yielded : in_slots i (with_slot_freed polled_left.slots h.1.0) + one_at i out.0 ≡ in_slots i asks.2 = count-yielded i polled asks.2 polled_left.slots h.1.0 out asks.4 in
-      let passed : in_slots i asks.2 ≡ held_with i group = count-names i polled asks.0 group.slots asks.2 asks.3.passes in
+  pub numbers_polled : (answer : Poll (Option (ℕ × A))) (cx after : Context) → PollsBounded (of_numbered rule) source group answer left cx after → held_with i left + outputs_with i answer ≡ held_with i group
+  numbers_polled (Ready None) cx after it = omega (arith, ap (λ (b : Bounded (Numbered F) S). held_with i b) it.gave.1)
+  numbers_polled (Ready (Some out)) cx after it =
+      let (slot, before, asks, emptied) = it.gave.1 in
+      let takes = asks.takes in
+      let is : held_with i left ≡ in_slots i (with_slot_freed before.slots slot) = ap (λ (b : Bounded (Numbered F) S). held_with i b) emptied in
+      let yielded : in_slots i (with_slot_freed before.slots slot) + one_at i out.0 ≡ in_slots i takes.passed = count-yielded i rule.polled takes.passed before.slots slot out takes.ends.2 in
+      let passed : in_slots i takes.passed ≡ held_with i group = count-names i rule.polled takes.names group.slots takes.passed takes.passes in
       omega (arith, is, yielded, passed)
-  numbers_polled group left Pending h =
-      let asks = h.1 in
-      let passed : held_with i left ≡ held_with i group = count-names i polled asks.0 group.slots left.slots asks.3.passes in
-      omega (arith, passed)
+  numbers_polled Pending cx after it =
+      let takes = it.gave.1.takes in
+      let is : held_with i left ≡ in_slots i takes.passed = ap (λ (m : Slots (Numbered F)). in_slots i m) takes.ends.0 in
+      let passed : in_slots i takes.passed ≡ held_with i group = count-names i rule.polled takes.names group.slots takes.passed takes.passes in
+      omega (arith, is, passed)
 
-  pub numbers_ended : (group left : Bounded (Numbered F) S) → PollGives (PollsNumbered polled) steps group (Ready None) left → held_with i left ≡ 0
-  numbers_ended group left h = ap (λ (b : Bounded (Numbered F) S). held_with i b) h.1 ∙ none_held i group.slots h.0
+  pub numbers_ended : (cx after : Context) → PollsBounded (of_numbered rule) source group (Ready None) left cx after → held_with i left ≡ 0
+  numbers_ended cx after it = ap (λ (b : Bounded (Numbered F) S). held_with i b) it.gave.1 ∙ none_held i group.slots it.gave.0
 
 module _ {F S : Type 0} (i : ℕ) where
   -- a push brings one

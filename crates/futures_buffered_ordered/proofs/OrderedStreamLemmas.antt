@@ -19,7 +19,7 @@ module _ {R F W A S : Type 0} (rule : PollOneOf R F W A) (source : ReadySourceOf
   pub bounded_answers : (old new : OrderedBounded F A S) (answer : Poll (Option A)) (cx left : Context) → PollsOrderedBounded rule source old answer new cx left
       → StreamAnswers (stream_of (λ q. EachRunning rule.can_poll q.set) (λ q n. (0 < held_in q.set) × source.needs q.set.source n) (ComesInOrder (SetMayGive rule.polled))) old answer new cx left
   bounded_answers old new answer cx left it =
-      queue_answers (SetGives rule.polled source.steps) (SetMayGive rule.polled) (set_still rule.polled source.steps) (set_gave rule.polled source.steps) held_in old new _ _ answer cx left (queue_gives_of rule source old new answer cx left it) it.queue.pollable it.queue.covered it.queue.kept
+      queue_answers (SetGives rule source) (SetMayGive rule.polled) (set_still rule source) (set_gave rule source) held_in old new _ _ answer cx left (queue_gives_of rule source old new answer cx left it) it.queue.pollable it.queue.covered it.queue.kept
 
   pub growing_answers : (old new : OrderedGrowing F A S) (answer : Poll (Option A)) (cx left : Context) → PollsOrdered held_in_groups SameLimit (growing_polls rule source) old answer new cx left
       → StreamAnswers (stream_of (λ q. EachInProgress rule.can_poll q.set) (λ q. AnyNeeds source.needs q.set.groups.listed) (ComesInOrder (GrowingMayGive rule.polled))) old answer new cx left

@@ -6,13 +6,13 @@ use Rattle.futures.specs.declared.task.Poll.{Poll}
 use Rattle.futures.specs.declared.task.Poll.TheVariants.{Ready, Pending}
 use Rattle.futures_buffered_core.specs.SlotMap.{slot_count}
 use Rattle.futures_buffered_table.specs.declared.answer.Woke.{Woke}
-use Rattle.futures_buffered_core.specs.ReadySource.{SourceSteps}
 use Rattle.futures_buffered_unordered.specs.Held.{AllHeld, AnyMayGive}
-use Rattle.futures_buffered_unordered.specs.FuturesUnorderedBounded.{Bounded, IsNewSet, Pushes, PollGives, held_in}
+use Rattle.futures_buffered_unordered.specs.FuturesUnorderedBounded.{Bounded, IsNewSet, Pushes, held_in}
 use Rattle.futures_buffered_unordered.specs.FuturesUnorderedBounded.{slots_in}
 use Rattle.futures_buffered_core.specs.declared.ready_source.ReadySource.{Ghosts as ReadySourceOf}
 use Rattle.futures_buffered_unordered.specs.declared.poll_one.PollOne.{Ghosts as PollOneOf}
 use Rattle.futures_buffered_unordered.specs.PollsBounded.{PollsBounded}
+use Rattle.futures_buffered_unordered.specs.StreamAnswers.{OfSomeTask}
 use Rattle.futures_buffered_ordered.specs.Numbered.{CanPollFuture, NumberedPollsOf, PollsNumbered, held_with, of_numbered}
 use Rattle.futures_buffered_ordered.specs.OrderedEntries.{Ordered, IsNewQueue, AddsEachBack, BesideTask, LastStep}
 use Rattle.futures_buffered_ordered.specs.OrderedEntries.{NumberedSetOf, PollsOrdered, SetYields}
@@ -76,10 +76,6 @@ module _ {F A S : Type 0} (polled : ℕ → F → Poll A → F → Type 0) where
   abbrev pub SetMayGive : Bounded (Numbered F) S → ℕ × A → Type 0
   SetMayGive set = AnyMayGive (PollsNumbered polled) set.slots
 
-  -- what one poll of the set returns, as a relation of the set alone; an output comes with its number
-  abbrev pub SetGives : SourceSteps S → Bounded (Numbered F) S → Poll (Option (ℕ × A)) → Bounded (Numbered F) S → Type 0
-  SetGives steps = PollGives (PollsNumbered polled) steps
-
 -- what the bounded set is to a queue over it
 abbrev pub bounded_numbers : {F S W : Type 0} → ReadySourceOf S W → NumberedSetOf (Bounded (Numbered F) S) F
 bounded_numbers source = record {
@@ -105,6 +101,10 @@ module _
       gives = PollsBounded (of_numbered rule) source;
       needs = λ set n. (0 < held_in set) × source.needs set.source n;
     }
+
+    -- one poll of the set, of some task; an output comes with its number
+    abbrev pub SetGives : Bounded (Numbered F) S → Poll (Option (ℕ × A)) → Bounded (Numbered F) S → Type 0
+    SetGives = OfSomeTask (PollsBounded (of_numbered rule) source)
 
     -- One poll of a bounded queue, over the queue and the task. It is for definitions and laws, which can quote no
     -- impl.

@@ -1,4 +1,5 @@
-use Rattle.futures_buffered_ordered.proofs.FuturesOrderedBoundedLemmas.{set_covered, set_empty, set_fewer, set_gives_of}
+use Rattle.futures_buffered_unordered.proofs.FuturesUnorderedBoundedLemmas.{poll_counted}
+use Rattle.futures_buffered_ordered.proofs.FuturesOrderedBoundedLemmas.{set_covered, set_empty}
 use Rattle.futures_buffered_ordered.proofs.NumberedLemmas.{numbers_polled}
 use Rattle.futures_buffered_ordered.proofs.futures_ordered_bounded.FuturesUnorderedBoundedNumberedPollNumberedSet.poll_numbered.Goals as goal
 
@@ -9,8 +10,8 @@ returns g c =
     record {
       gave = poll;
       empty = set_empty _ source _ _ _ _ _ poll;
-      fewer = set_fewer _ source _ _ _ _ _ poll;
-      numbers = λ i. numbers_polled i g.R.PollOne.polled source.steps c.args.self.now c.poll_with.new.self c.poll_with.result (set_gives_of g.R.PollOne source _ _ _ _ _ poll);
+      fewer = poll_counted _ source _ _ _ _ _ poll;
+      numbers = λ i. numbers_polled i g.R.PollOne source _ _ _ _ _ poll;
       set = record { capacity = poll.capacity; limit = poll.limit };
       covered = set_covered _ source _ _ _ _ _ poll;
       kept = poll.kept;
