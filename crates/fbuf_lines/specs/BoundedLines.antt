@@ -1,13 +1,20 @@
 -- The reply to a command to a bounded set, and what the command makes of the set.
-use Rattle.std.specs.Prelude.{◌≡◌, ℕ, ◌<◌, ◌≤◌, [], Option, ◌⊎◌}
+use Rattle.std.specs.Prelude.{◌≡◌, ℕ, ◌<◌, ◌≤◌, [], Option, ◌⊎◌, ⊤}
+use Rattle.futures.specs.Task.{IsArmed, Keeps}
 use Rattle.futures.specs.declared.task.Poll.{Poll as PollAnswer}
 use Rattle.futures_buffered_table.specs.declared.answer.Woke.{Woke}
 use Rattle.futures_buffered_core.specs.ReadyCore.{Standing, Marks, Takes}
-use Rattle.futures_buffered_core.specs.ReadySource.{SourceSteps}
+use Rattle.futures_buffered_core.specs.ReadySource.{WaitsNowhere, only_takes}
+use Rattle.futures_buffered_core.specs.declared.core_source.NoopWaker.{NoopWaker}
 use Rattle.futures_buffered_core.specs.SlotMap.{no_slots, slot_count, held_count}
-use Rattle.futures_buffered_unordered.specs.FuturesUnorderedBounded.{Bounded, Pushes, PollGives}
+use Rattle.futures_buffered_unordered.specs.FuturesUnorderedBounded.{Bounded, Pushes}
+use Rattle.futures_buffered_core.specs.declared.ready_source.ReadySource.{Ghosts as ReadySourceOf}
+use Rattle.futures_buffered_unordered.specs.declared.poll_one.PollOne.{Ghosts as PollOneOf}
+use Rattle.futures_buffered_unordered.specs.PollsBounded.{PollsBounded}
+use Rattle.futures_buffered_unordered.specs.StreamAnswers.{OfSomeTask}
 use Rattle.fbuf_lines.specs.ReadyAfter.{PollsReadyAfter}
 use Rattle.fbuf_lines.specs.Reply.{woke_reply, poll_reply}
+use Rattle.fbuf_lines.specs.declared.ready_after.PollReadyAfter.{PollReadyAfter}
 use Rattle.fbuf_lines.specs.declared.ready_after.ReadyAfter.{ReadyAfter}
 use Rattle.fbuf_lines.specs.declared.command.Command.{Command}
 use Rattle.fbuf_lines.specs.declared.command.Command.TheVariants.{Push, Wake, Poll, Len}
@@ -30,13 +37,23 @@ new_bounded capacity limit = record { slots = no_slots capacity; source = new_st
 abbrev pub IsNewStanding : ℕ → Standing → Type 0
 IsNewStanding capacity standing = standing ≡ new_standing capacity
 
--- what a poll may make of a ready core; a registration does not change its standing
-abbrev pub core_steps : SourceSteps Standing
-core_steps = record { registers = λ before after. after ≡ before; takes = Takes }
+-- the rule that polls the futures of a script
+abbrev pub script_rule : PollOneOf PollReadyAfter ReadyAfter NoopWaker ℕ
+script_rule = record { can_poll = λ _. ⊤; polled = λ _. PollsReadyAfter; goes_on = λ _. ⊥ }
 
--- one poll of the set
+-- the ready core of a script as a source; a registration does not change its standing
+abbrev pub script_source : ReadySourceOf Standing NoopWaker
+script_source = record {
+  slots = λ standing. standing.capacity;
+  marks = Marks;
+  steps = only_takes Takes;
+  registers_poll = λ _ cx left. IsArmed left × Keeps cx left;
+  needs = WaitsNowhere;
+}
+
+-- one poll of the set, of some task
 abbrev pub PollsSet : ScriptBounded → PollAnswer (Option ℕ) → ScriptBounded → Type 0
-PollsSet old answer new = PollGives (λ _. PollsReadyAfter) core_steps old answer new
+PollsSet = OfSomeTask (PollsBounded script_rule script_source)
 
 -- one mark of a slot of the set
 pub record MarksSlotThere

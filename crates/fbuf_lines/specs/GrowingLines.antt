@@ -1,14 +1,14 @@
 -- The reply to a command to a growing set, and what the command makes of the set.
-use Rattle.std.specs.Prelude.{◌≡◌, ◌⊎◌, ℕ, false, length, Option}
-use Rattle.futures.specs.declared.task.context.Context.{Context}
+use Rattle.std.specs.Prelude.{◌≡◌, ◌⊎◌, ℕ, Option}
 use Rattle.futures.specs.declared.task.Poll.{Poll as PollAnswer}
 use Rattle.futures_buffered_core.specs.ReadyCore.{Standing, Marks}
-use Rattle.futures_buffered_unordered.specs.Groups.{AsksInTurn}
 use Rattle.futures_buffered_unordered.specs.FuturesUnordered.{Growing, GrowingPushes, IsAtBound, held_in_all}
 use Rattle.futures_buffered_unordered.specs.FuturesUnordered.{spare_places}
+use Rattle.futures_buffered_unordered.specs.PollsGrowing.{PollsGrowing}
+use Rattle.futures_buffered_unordered.specs.StreamAnswers.{OfSomeTask}
 use Rattle.futures_buffered_unordered.specs.declared.futures_unordered.TheConstants.{FIRST_GROUP, MAX_HELD}
 use Rattle.fbuf_lines.specs.Reply.{poll_reply}
-use Rattle.fbuf_lines.specs.BoundedLines.{IsNewStanding, PollsSet}
+use Rattle.fbuf_lines.specs.BoundedLines.{IsNewStanding, script_rule, script_source}
 use Rattle.fbuf_lines.specs.declared.ready_after.ReadyAfter.{ReadyAfter}
 use Rattle.fbuf_lines.specs.declared.command.Command.{Command}
 use Rattle.fbuf_lines.specs.declared.command.Command.TheVariants.{Push, Poll, Len}
@@ -19,12 +19,9 @@ use Rattle.fbuf_lines.specs.declared.reply.Reply.TheVariants.{Done, Count, Bad}
 abbrev pub ScriptGrowing : Type 0
 ScriptGrowing = Growing ReadyAfter Standing
 
--- one poll of the groups of a growing set in turn, each polled as a bounded set is, of some task; the limit stays
+-- one poll of the set, of some task
 abbrev pub PollsGrowingLine : ScriptGrowing → PollAnswer (Option ℕ) → ScriptGrowing → Type 0
-PollsGrowingLine old answer new = (cx : Context) × (left : Context)
-    × AsksInTurn (λ _ group result group_left _ _. PollsSet group result group_left)
-    (length old.groups.listed) false old.groups answer new.groups cx left
-    × (new.limit ≡ old.limit)
+PollsGrowingLine = OfSomeTask (PollsGrowing script_rule script_source)
 
 -- one push into a growing set that is not at its bound
 abbrev pub PushesGrowing : ScriptGrowing → ReadyAfter → ScriptGrowing → Type 0

@@ -4,12 +4,12 @@ use Rattle.futures.specs.declared.task.Poll.{Poll as PollAnswer}
 use Rattle.futures_buffered_table.specs.declared.answer.Woke.{Woke}
 use Rattle.futures_buffered_core.specs.ReadyCore.{Standing, Marks}
 use Rattle.futures_buffered_core.specs.SlotMap.{slot_count}
-use Rattle.futures_buffered_unordered.specs.FuturesUnorderedBounded.{held_in}
-use Rattle.futures_buffered_ordered.specs.OrderedEntries.{AddsBack, AddsFront, OrderedGives}
-use Rattle.futures_buffered_ordered.specs.FuturesOrderedBounded.{OrderedBounded, QueueIsFull, PushesNumber, SetGives}
-use Rattle.fbuf_lines.specs.ReadyAfter.{PollsReadyAfter}
+use Rattle.futures_buffered_unordered.specs.StreamAnswers.{OfSomeTask}
+use Rattle.futures_buffered_ordered.specs.OrderedEntries.{AddsBack, AddsFront}
+use Rattle.futures_buffered_ordered.specs.FuturesOrderedBounded.{OrderedBounded, PollsOrderedBounded}
+use Rattle.futures_buffered_ordered.specs.FuturesOrderedBounded.{PushesNumber, QueueIsFull}
 use Rattle.fbuf_lines.specs.Reply.{woke_reply, poll_reply}
-use Rattle.fbuf_lines.specs.BoundedLines.{MarksSlotThere, core_steps}
+use Rattle.fbuf_lines.specs.BoundedLines.{MarksSlotThere, script_rule, script_source}
 use Rattle.fbuf_lines.specs.declared.ready_after.ReadyAfter.{ReadyAfter}
 use Rattle.fbuf_lines.specs.declared.command.Command.{Command}
 use Rattle.fbuf_lines.specs.declared.command.Command.TheVariants.{Back, Front, Wake, Poll, Len}
@@ -33,9 +33,9 @@ BackGives = QueuePushGives (AddsBack (PushesNumber Marks))
 abbrev pub FrontGives : ScriptOrdered → ReadyAfter → Reply → ScriptOrdered → Type 0
 FrontGives = QueuePushGives (AddsFront (PushesNumber Marks))
 
--- one poll of the queue
+-- one poll of the queue, of some task
 abbrev pub PollsOrderedLine : ScriptOrdered → PollAnswer (Option ℕ) → ScriptOrdered → Type 0
-PollsOrderedLine old answer new = OrderedGives (SetGives (λ _. PollsReadyAfter) core_steps) held_in old answer new
+PollsOrderedLine = OfSomeTask (PollsOrderedBounded script_rule script_source)
 
 -- one mark of a slot of the queue's set
 abbrev pub MarksQueue : ScriptOrdered → ℕ → Woke → ScriptOrdered → Type 0

@@ -15,16 +15,18 @@ use Rattle.std.specs.List.{flat_map, range_with_len, FoldsTo}
 use Rattle.std.specs.List.Sorted.{IsNonDecreasing, IsPermutation}
 use Rattle.std.specs.Option.{option_to_list}
 use Rattle.std.specs.Io.KnownBytes.{Appends}
+use Rattle.futures.specs.declared.task.context.Context.{Context}
 use Rattle.futures.specs.declared.task.Poll.{Poll}
 use Rattle.futures.specs.declared.task.Poll.TheVariants.{Ready, Pending}
 use Rattle.futures.specs.Poll.{IfReady, OnPending}
 use Rattle.futures.specs.Runs.{After, Within}
 use Rattle.futures_buffered_core.specs.SlotMap.{Slots, Inserts, value_in, slot_count}
 use Rattle.futures_buffered_core.specs.SlotMap.{held_count, no_slots, with_value, with_slot_freed}
-use Rattle.futures_buffered_core.specs.ReadySource.{SourceSteps}
 use Rattle.futures_buffered_core.proofs.SlotMapLemmas.{value_within}
 use Rattle.futures_buffered_unordered.specs.Held.{Passes, Yields}
-use Rattle.futures_buffered_unordered.specs.FuturesUnorderedBounded.{Bounded, PollGives}
+use Rattle.futures_buffered_unordered.specs.FuturesUnorderedBounded.{Bounded}
+use Rattle.futures_buffered_core.specs.declared.ready_source.ReadySource.{Ghosts as ReadySourceOf}
+use Rattle.futures_buffered_unordered.specs.PollsBounded.{PollsBounded, itself}
 use Rattle.futures_buffered_unordered.proofs.HeldLemmas.{value_in-with_value}
 use Rattle.fbuf_lines.specs.Command.{spaced_number}
 use Rattle.fbuf_program.specs.declared.threads.AllWakes.{AllWakes}
@@ -222,7 +224,11 @@ module _ {R : Type 0} where
   all_numbers all n first outputs held left whole gave rest every rising =
       rising_range 0 n all rising (λ k. omega (arith, whole k, gave k, rest k, every k))
 
-  module _ {S : Type 0} (steps : SourceSteps S) where
+  module _ {S W : Type 0} (can_poll : AllWakes R → Type 0) (source : ReadySourceOf S W) where
+    -- one poll of a set of such futures
+    abbrev Polls : Bounded (AllWakes R) S → Poll (Option ℕ) → Bounded (AllWakes R) S → Context → Context → Type 0
+    Polls = PollsBounded (itself (record { can_poll = can_poll; polled = AnswersNumber })) source
+
     passed : (names : List ℕ) (old new : Slots (AllWakes R)) (k : ℕ)
         → FoldsTo (Passes AnswersNumber) old names new → times_held new k ≡ times_held old k
     passed [] old new k h = ap (λ slots. times_held slots k) (sym h)
@@ -253,45 +259,51 @@ module _ {R : Type 0} where
         )
 
     -- a poll gives the number of one future that was held, or leaves all
-    pub poll_gave : (old new : Bounded (AllWakes R) S) (answer : Poll (Option ℕ))
-        → PollGives AnswersNumber steps old answer new
+    pub poll_gave : (old new : Bounded (AllWakes R) S) (answer : Poll (Option ℕ)) (cx left : Context)
+        → Polls old answer new cx left
         → IfReady answer (λ o. GaveNumber old.slots o new.slots)
-    poll_gave old new (Ready None) h = λ k. omega (arith, ap {B = ℕ} (λ b. times_held b.slots k) h.1)
-    poll_gave old new (Ready (Some x)) h = λ k.
-        let asks = h.1.2 in
-        ap (λ b. times_in (x ∷ []) k + times_held b.slots k) h.1.3
-        ∙ yielded asks.2 h.1.1.slots h.1.0 x k asks.4 ∙ passed asks.0 old.slots asks.2 k asks.3.passes
-    poll_gave old new Pending h = tt
+    poll_gave old new (Ready None) cx left h = λ k. omega (arith, ap {B = ℕ} (λ b. times_held b.slots k) h.gave.1)
+    poll_gave old new (Ready (Some x)) cx left h = λ k.
+        let (i, before, asks, emptied) = h.gave.1 in
+        let takes = asks.takes in
+        ap (λ b. times_in (x ∷ []) k + times_held b.slots k) emptied
+        ∙ yielded takes.passed before.slots i x k takes.ends.2
+        ∙ passed takes.names old.slots takes.passed k takes.passes
+    poll_gave old new Pending cx left h = tt
 
-    pub poll_left : (old new : Bounded (AllWakes R) S) (answer : Poll (Option ℕ))
-        → PollGives AnswersNumber steps old answer new
+    pub poll_left : (old new : Bounded (AllWakes R) S) (answer : Poll (Option ℕ)) (cx left : Context)
+        → Polls old answer new cx left
         → OnPending answer (GaveNumber old.slots None new.slots)
-    poll_left old new (Ready o) h = tt
-    poll_left old new Pending h = λ k.
-        let asks = h.1 in
-        omega (arith, passed asks.0 old.slots new.slots k asks.3.passes)
+    poll_left old new (Ready o) cx left h = tt
+    poll_left old new Pending cx left h = λ k.
+        let takes = h.gave.1.takes in
+        omega (
+          arith,
+          ap {B = ℕ} (λ slots. times_held slots k) takes.ends.0,
+          passed takes.names old.slots takes.passed k takes.passes,
+        )
 
-    pub first_given : (old new : Bounded (AllWakes R) S) (answer : Poll (Option ℕ))
-        → PollGives AnswersNumber steps old answer new
+    pub first_given : (old new : Bounded (AllWakes R) S) (answer : Poll (Option ℕ)) (cx left : Context)
+        → Polls old answer new cx left
         → IfReady answer (GiveNumbers old.slots [])
-    first_given old new (Ready None) h = record {
+    first_given old new (Ready None) cx left h = record {
       once = λ k. omega arith;
-      each = λ is k. sym (times_held-none old.slots k h.0);
+      each = λ is k. sym (times_held-none old.slots k h.gave.0);
     }
-    first_given old new (Ready (Some x)) h =
-        let gave = poll_gave old new (Ready (Some x)) h in
+    first_given old new (Ready (Some x)) cx left h =
+        let gave = poll_gave old new (Ready (Some x)) cx left h in
         record {
           once = λ k. omega (arith, gave k);
           each = λ is. cc;
         }
-    first_given old new Pending h = tt
+    first_given old new Pending cx left h = tt
 
-    pub rest_given : (old new : Bounded (AllWakes R) S) (answer : Poll (Option ℕ))
-        → PollGives AnswersNumber steps old answer new
+    pub rest_given : (old new : Bounded (AllWakes R) S) (answer : Poll (Option ℕ)) (cx left : Context)
+        → Polls old answer new cx left
         → IfReady answer (λ o. IfSome o (λ x. After (GiveNumbers old.slots) x (GiveNumbers new.slots)))
-    rest_given old new (Ready None) h = tt
-    rest_given old new (Ready (Some x)) h = λ xs last more.
-        let gave = poll_gave old new (Ready (Some x)) h in
+    rest_given old new (Ready None) cx left h = tt
+    rest_given old new (Ready (Some x)) cx left h = λ xs last more.
+        let gave = poll_gave old new (Ready (Some x)) cx left h in
         record {
           once = λ k. omega (
             arith,
@@ -302,14 +314,14 @@ module _ {R : Type 0} where
           );
           each = λ is k. omega (arith, gave k, more.each is k, times_in-cons x [] k, times_in-cons x xs k);
         }
-    rest_given old new Pending h = tt
+    rest_given old new Pending cx left h = tt
 
-    pub same_given : (old new : Bounded (AllWakes R) S) (answer : Poll (Option ℕ))
-        → PollGives AnswersNumber steps old answer new
+    pub same_given : (old new : Bounded (AllWakes R) S) (answer : Poll (Option ℕ)) (cx left : Context)
+        → Polls old answer new cx left
         → OnPending answer (Within (GiveNumbers old.slots) (GiveNumbers new.slots))
-    same_given old new (Ready o) h = tt
-    same_given old new Pending h = λ xs last more.
-        let left = poll_left old new Pending h in
+    same_given old new (Ready o) cx left h = tt
+    same_given old new Pending cx left h = λ xs last more.
+        let left = poll_left old new Pending cx left h in
         record {
           once = λ k. omega (arith, left k, more.once k);
           each = λ is k. omega (arith, left k, more.each is k);

@@ -10,11 +10,12 @@ use Rattle.futures.specs.declared.task.Poll.{Poll}
 use Rattle.futures.specs.declared.task.Poll.TheVariants.{Ready, Pending}
 use Rattle.futures_buffered_core.specs.SlotMap.{Slots, value_in, with_value, with_slot_freed, Inserts}
 use Rattle.futures_buffered_table.specs.declared.answer.Woke.{Woke}
-use Rattle.futures_buffered_core.specs.ReadySource.{SourceSteps}
 use Rattle.futures_buffered_unordered.specs.Held.{Passes, Yields}
-use Rattle.futures_buffered_unordered.specs.FuturesUnorderedBounded.{Bounded, Pushes, PollGives, held_in}
+use Rattle.futures_buffered_unordered.specs.FuturesUnorderedBounded.{Bounded, Pushes, held_in}
 use Rattle.futures_buffered_core.specs.declared.ready_source.ReadySource.{Ghosts as ReadySourceOf}
 use Rattle.futures_buffered_unordered.specs.declared.slot_future.SlotFuture.{Ghosts as SlotFutureOf}
+use Rattle.futures_buffered_unordered.specs.PollsBounded.{PollsBounded, itself}
+use Rattle.futures_buffered_unordered.specs.StreamAnswers.{OfSomeTask}
 use Rattle.futures_buffered.specs.FutureQueue.{OnlyPushes}
 use Rattle.futures_buffered.specs.Buffer.{StreamOf, Accounts, PollsStream, output_given}
 use Rattle.futures_buffered.specs.BufferUnordered.{PendsTo, WaitsInSlot, MayGiveInSlot, LosesNothing, TryLosesNothing, held_values}
@@ -161,22 +162,23 @@ module _ {F A : Type 0} (polled : ℕ → F → Poll A → F → Type 0) where
         came = rw into.now_held put.1;
       }
 
-module _ {F A S : Type 0} (polled : ℕ → F → Poll A → F → Type 0) (steps : SourceSteps S) where
-  pub gave_one : (drawn : List F) (outputs : List A) (old new : Bounded F S) (answer : Poll (Option A)) → SoFar polled drawn outputs old.slots → PollGives polled steps old answer new → SoFar polled drawn (outputs ++ option_to_list (output_given answer)) new.slots
-  gave_one drawn outputs old new (Ready None) so h = rw (append-nil outputs) (subst (λ (b : Bounded F S). SoFar polled drawn outputs b.slots) (sym h.1) so)
-  gave_one drawn outputs old new (Ready (Some x)) so h =
-      let asks = h.1.2 in
-      let ran = ran_on polled so.origins asks.0 old.slots asks.2 so.came asks.3.passes in
-      let out = ran_out polled so.origins asks.2 _ _ x ran asks.4 in
+module _ {F A S W : Type 0} (future : SlotFutureOf F W A) (source : ReadySourceOf S W) where
+  pub gave_one : (drawn : List F) (outputs : List A) (old new : Bounded F S) (answer : Poll (Option A)) → SoFar future.polled drawn outputs old.slots → OfSomeTask (PollsBounded (itself future) source) old answer new → SoFar future.polled drawn (outputs ++ option_to_list (output_given answer)) new.slots
+  gave_one drawn outputs old new (Ready None) so (cx, left, poll) = rw (append-nil outputs) (subst (λ (b : Bounded F S). SoFar future.polled drawn outputs b.slots) (sym poll.gave.1) so)
+  gave_one drawn outputs old new (Ready (Some x)) so (cx, left, poll) =
+      let takes = poll.gave.1.2.takes in
+      let ran = ran_on future.polled so.origins takes.names old.slots takes.passed so.came takes.passes in
+      let out = ran_out future.polled so.origins takes.passed _ _ x ran takes.ends.2 in
       record {
         gone = so.gone ++ out.0 ∷ [];
         origins = out.1;
         all = IsPermutation-pop_more drawn so.gone (somes so.origins) (somes out.1) out.0 so.all out.4;
-        gave = zip-push polled so.gone outputs out.0 x so.gave out.2;
-        came = rw h.1.3 out.3;
+        gave = zip-push future.polled so.gone outputs out.0 x so.gave out.2;
+        came = rw poll.gave.1.3 out.3;
       }
-  gave_one drawn outputs old new Pending so h =
-      rw (append-nil outputs) (record { gone = so.gone; origins = so.origins; all = so.all; gave = so.gave; came = ran_on polled so.origins h.1.0 old.slots new.slots so.came h.1.3.passes })
+  gave_one drawn outputs old new Pending so (cx, left, poll) =
+      let takes = poll.gave.1.takes in
+      rw (append-nil outputs, takes.ends.0) (record { gone = so.gone; origins = so.origins; all = so.all; gave = so.gave; came = ran_on future.polled so.origins takes.names old.slots takes.passed so.came takes.passes })
 
 -- the same accounts at a set
 module _ {F A S : Type 0} (polled : ℕ → F → Poll A → F → Type 0) (marks : S → ℕ → Woke → S → Type 0) where
@@ -197,12 +199,12 @@ module _ {F A S : Type 0} (polled : ℕ → F → Poll A → F → Type 0) (mark
 pub loses_nothing : {St F A S W : Type 0} (stream : StreamOf St F) (future : SlotFutureOf F W A) (source : ReadySourceOf S W) → LosesNothing stream future source
 loses_nothing stream future source n old new calls empty ran =
     account future.polled source.marks _ _ new.queue
-    (many_calls (PollsStream stream.yields) held_in n (OnlyPushes (Pushes source.marks)) (PollGives future.polled source.steps) (So future.polled source.marks) (set_drew future.polled source.marks) (λ drawn outputs before after f x so never. absurd never) (gave_one future.polled source.steps)
+    (many_calls (PollsStream stream.yields) held_in n (OnlyPushes (Pushes source.marks)) (OfSomeTask (PollsBounded (itself future) source)) (So future.polled source.marks) (set_drew future.polled source.marks) (λ drawn outputs before after f x so never. absurd never) (gave_one future source)
     calls [] [] old new (start future.polled source.marks old.queue empty) ran)
 
 -- the same where the stream gives errors as well
 pub try_loses_nothing : {St F T E S W : Type 0} (stream : StreamOf St (Result F E)) (future : SlotFutureOf F W (Result T E)) (source : ReadySourceOf S W) → TryLosesNothing stream future source
 try_loses_nothing stream future source n old new calls empty ran =
-    let so = many_calls (PollsStream stream.yields) held_in n (PushesOk (OnlyPushes (Pushes source.marks))) (PollGives future.polled source.steps) (AmongErrors (So future.polled source.marks)) (ok_drew (So future.polled source.marks) (Pushes source.marks) (set_drew future.polled source.marks)) (error_handed (So future.polled source.marks) (Pushes source.marks)) (queue_gave (So future.polled source.marks) (PollGives future.polled source.steps) (gave_one future.polled source.steps))
+    let so = many_calls (PollsStream stream.yields) held_in n (PushesOk (OnlyPushes (Pushes source.marks))) (OfSomeTask (PollsBounded (itself future) source)) (AmongErrors (So future.polled source.marks)) (ok_drew (So future.polled source.marks) (Pushes source.marks) (set_drew future.polled source.marks)) (error_handed (So future.polled source.marks) (Pushes source.marks)) (queue_gave (So future.polled source.marks) (OfSomeTask (PollsBounded (itself future) source)) (gave_one future source))
     calls [] [] old new ([], start future.polled source.marks old.queue empty, ([], (refl, refl))) ran in
     (so.0, so.2, account future.polled source.marks _ _ new.queue so.1)

@@ -9,14 +9,12 @@ use Rattle.futures.specs.declared.task.Poll.TheVariants.{Ready, Pending}
 use Rattle.futures.specs.Poll.{IfReady, OnPending}
 use Rattle.futures_buffered_core.specs.SlotMap.{Slots, value_in, held_count, with_value, Inserts}
 use Rattle.futures_buffered_table.specs.declared.answer.Woke.{Woke}
-use Rattle.futures_buffered_core.specs.ReadySource.{SourceSteps}
 use Rattle.futures_buffered_core.specs.declared.ready_source.ReadySource.{Ghosts as ReadySourceOf}
 use Rattle.futures_buffered_unordered.specs.declared.slot_future.SlotFuture.{Ghosts as SlotFutureOf}
 use Rattle.futures_buffered_unordered.specs.Held.{MayGive, AllHeld, ComesFrom}
-use Rattle.futures_buffered_unordered.specs.FuturesUnorderedBounded.{Bounded, Pushes, PollGives, held_in}
+use Rattle.futures_buffered_unordered.specs.FuturesUnorderedBounded.{Bounded, Pushes, held_in}
 use Rattle.futures_buffered_unordered.specs.PollsBounded.{PollsBounded, itself}
 use Rattle.futures_buffered_unordered.proofs.HeldLemmas.{AllHeld-push}
-use Rattle.futures_buffered_unordered.proofs.PollsBoundedLemmas.{gives_of}
 use Rattle.futures_buffered.specs.FutureQueue.{AddsOutput}
 use Rattle.futures_buffered.specs.BufferUnordered.{MayGiveInSlot}
 
@@ -55,15 +53,11 @@ module _ {F S : Type 0} (marks : S → ℕ → Woke → S → Type 0) (old new :
   pub pushed_can : (can_poll : F → Type 0) → AllHeld can_poll old.slots → can_poll f → AllHeld can_poll new.slots
   pushed_can can_poll held fit = AllHeld-push can_poll old.slots pushed.0 f new.slots pushed.1.inserted held fit
 
--- a poll, told of the set alone
-pub set_alone : {F A S W : Type 0} (future : SlotFutureOf F W A) (source : ReadySourceOf S W) (old new : Bounded F S) (answer : Poll (Option A)) (cx left : Context) → PollsBounded (itself future) source old answer new cx left → PollGives future.polled source.steps old answer new
-set_alone future source old new answer cx left poll = gives_of (itself future) source source.steps.registers (λ a b h. h) old new answer cx left poll
-
 -- a poll that finds no future changes nothing
-pub empty_polled : {F A S : Type 0} (polled : ℕ → F → Poll A → F → Type 0) (steps : SourceSteps S) (old new : Bounded F S) (answer : Poll (Option A)) → PollGives polled steps old answer new → IfReady answer (λ o. IfNone o ((held_in old ≡ 0) × (new ≡ old)))
-empty_polled polled steps old new (Ready None) h = h
-empty_polled polled steps old new (Ready (Some x)) h = tt
-empty_polled polled steps old new Pending h = tt
+pub empty_polled : {F A S W : Type 0} (future : SlotFutureOf F W A) (source : ReadySourceOf S W) (old new : Bounded F S) (answer : Poll (Option A)) (cx left : Context) → PollsBounded (itself future) source old answer new cx left → IfReady answer (λ o. IfNone o ((held_in old ≡ 0) × (new ≡ old)))
+empty_polled future source old new (Ready None) cx left poll = (poll.gave.0, poll.gave.1)
+empty_polled future source old new (Ready (Some x)) cx left poll = tt
+empty_polled future source old new Pending cx left poll = tt
 
 -- a pending set holds a future
 pub pending_holds : {F A S W : Type 0} (future : SlotFutureOf F W A) (source : ReadySourceOf S W) (old new : Bounded F S) (answer : Poll (Option A)) (cx left : Context) → PollsBounded (itself future) source old answer new cx left → OnPending answer (0 < held_in new)

@@ -10,9 +10,10 @@ use Rattle.futures.specs.declared.task.Poll.{Poll}
 use Rattle.futures.specs.declared.task.Poll.TheVariants.{Ready, Pending}
 use Rattle.futures_buffered_core.specs.SlotMap.{Slots, value_in, with_value, with_slot_freed, Inserts}
 use Rattle.futures_buffered_table.specs.declared.answer.Woke.{Woke}
-use Rattle.futures_buffered_core.specs.ReadySource.{SourceSteps}
 use Rattle.futures_buffered_unordered.specs.Held.{Passes, Yields}
 use Rattle.futures_buffered_unordered.specs.FuturesUnorderedBounded.{held_in}
+use Rattle.futures_buffered_unordered.specs.declared.poll_one.PollOne.{Ghosts as PollOneOf}
+use Rattle.futures_buffered_unordered.specs.PollsBounded.{itself}
 use Rattle.futures_buffered_unordered.proofs.HeldLemmas.{apart, value_in-with_value, value_inserted, value_inserted_other}
 use Rattle.futures_buffered_unordered.proofs.HeldGivesLemmas.{value_in-with_slot_freed_other}
 use Rattle.futures_buffered_ordered.specs.Numbered.{PollsNumbered, held_with, one_at}
@@ -188,68 +189,69 @@ module _ {F A S : Type 0} (polled : ℕ → F → Poll A → F → Type 0) where
             omega (arith, so.as_many n, numbers_inserted n marks old.set new.set put pushed, more, ap (λ (l : List (Entry A)). count_by (runs_with n) l) added.2);
       }
 
-module _ {F A S : Type 0} (polled : ℕ → F → Poll A → F → Type 0) (steps : SourceSteps S) where
+module _ {R F W A S : Type 0} (rule : PollOneOf R F W A) (source : ReadySourceOf S W) where
   -- a poll of the set gave an output, which its entry keeps
-  one_kept : (drawn : List F) (outputs : List A) (old new : OrderedBounded F A S) (i : ℕ) (x : A) → SoFar polled drawn outputs old → SetYields (SetGives polled steps) old (i, x) new → SoFar polled drawn outputs new
+  one_kept : (drawn : List F) (outputs : List A) (old new : OrderedBounded F A S) (i : ℕ) (x : A) → SoFar rule.polled drawn outputs old → SetYields (SetGives rule source) old (i, x) new → SoFar rule.polled drawn outputs new
   one_kept drawn outputs old new i x so h =
-      let s = h.gave.1.0 in
-      let left = h.gave.1.1 in
-      let asks = h.gave.1.2 in
-      let ran = ran_on polled asks.0 old.set.slots asks.2 so.kept old.entries asks.3.passes so.came in
-      let one : in_slots i asks.2 ≤ 1 = omega (arith, count-names i polled asks.0 old.set.slots asks.2 asks.3.passes, so.as_many i, so.once i) in
-      let done = finished_on polled asks.2 left.slots s i x asks.4 one h.at so.kept old.entries (so.once i) h.was_running ran in
+      let (cx, after, poll) = h.gave in
+      let (s, left, asks, emptied) = poll.gave.1 in
+      let takes = asks.takes in
+      let ran = ran_on rule.polled takes.names old.set.slots takes.passed so.kept old.entries takes.passes so.came in
+      let one : in_slots i takes.passed ≤ 1 = omega (arith, count-names i rule.polled takes.names old.set.slots takes.passed takes.passes, so.as_many i, so.once i) in
+      let done = finished_on rule.polled takes.passed left.slots s i x takes.ends.2 one h.at so.kept old.entries (so.once i) h.was_running ran in
       record {
         gone = so.gone;
         kept = so.kept;
         all = so.all;
         gave = so.gave;
-        came = rw (h.gave.1.3, h.entries) done;
+        came = rw (emptied, h.entries) done;
         once = λ n. omega (arith, so.once n, runs-set n i h.at old.entries x h.was_running, ap (λ (l : List (Entry A)). count_by (runs_with n) l) h.entries);
         as_many = λ n.
-            omega (arith, so.as_many n, numbers_polled n polled steps old.set new.set (Ready (Some (i, x))) h.gave, runs-set n i h.at old.entries x h.was_running, ap (λ (l : List (Entry A)). count_by (runs_with n) l) h.entries);
+            omega (arith, so.as_many n, numbers_polled n rule source old.set new.set (Ready (Some (i, x))) cx after poll, runs-set n i h.at old.entries x h.was_running, ap (λ (l : List (Entry A)). count_by (runs_with n) l) h.entries);
       }
 
-  row_kept : (row : List (ℕ × A)) (drawn : List F) (outputs : List A) (old before : OrderedBounded F A S) → SoFar polled drawn outputs old → FoldsTo (SetYields (SetGives polled steps)) old row before → SoFar polled drawn outputs before
-  row_kept [] drawn outputs old before so h = subst (SoFar polled drawn outputs) h so
+  row_kept : (row : List (ℕ × A)) (drawn : List F) (outputs : List A) (old before : OrderedBounded F A S) → SoFar rule.polled drawn outputs old → FoldsTo (SetYields (SetGives rule source)) old row before → SoFar rule.polled drawn outputs before
+  row_kept [] drawn outputs old before so h = subst (SoFar rule.polled drawn outputs) h so
   row_kept ((i, x) ∷ row) drawn outputs old before so h = row_kept row drawn outputs h.0 before (one_kept drawn outputs old h.0 i x so h.1) h.2
 
   -- the front left with its output
-  front_gave : (drawn : List F) (outputs : List A) (before new : OrderedBounded F A S) (x : A) → SoFar polled drawn outputs before → before.entries ≡ Kept x ∷ new.entries → new.set ≡ before.set → SoFar polled drawn (outputs ++ x ∷ []) new
-  front_gave drawn outputs before new x so front same = by_kept so.kept so.all (subst (λ (l : List (Entry A)). AllZip (BecomesEntry polled before.set.slots) so.kept l) front so.came)
+  front_gave : (drawn : List F) (outputs : List A) (before new : OrderedBounded F A S) (x : A) → SoFar rule.polled drawn outputs before → before.entries ≡ Kept x ∷ new.entries → new.set ≡ before.set → SoFar rule.polled drawn (outputs ++ x ∷ []) new
+  front_gave drawn outputs before new x so front same = by_kept so.kept so.all (subst (λ (l : List (Entry A)). AllZip (BecomesEntry rule.polled before.set.slots) so.kept l) front so.came)
     where
-      by_kept : (kept : List F) → drawn ≡ so.gone ++ kept → AllZip (BecomesEntry polled before.set.slots) kept (Kept x ∷ new.entries) → SoFar polled drawn (outputs ++ x ∷ []) new
+      by_kept : (kept : List F) → drawn ≡ so.gone ++ kept → AllZip (BecomesEntry rule.polled before.set.slots) kept (Kept x ∷ new.entries) → SoFar rule.polled drawn (outputs ++ x ∷ []) new
       by_kept [] all came = absurd came
       by_kept (f ∷ fs) all came =
           record {
             gone = so.gone ++ f ∷ [];
             kept = fs;
             all = all ∙ sym (append_assoc so.gone (f ∷ []) fs);
-            gave = zip_push (MayGiveInSlot polled) so.gone outputs f x so.gave came.0;
+            gave = zip_push (MayGiveInSlot rule.polled) so.gone outputs f x so.gave came.0;
             came = rw same came.1;
             once = λ n. subst (λ (l : List (Entry A)). count_by (runs_with n) l ≤ 1) front (so.once n);
             as_many = λ n. rw same (so.as_many n ∙ ap (λ (l : List (Entry A)). count_by (runs_with n) l) front);
           }
 
-  pub one_poll : (drawn : List F) (outputs : List A) (old new : OrderedBounded F A S) (answer : Poll (Option A)) → SoFar polled drawn outputs old → OrderedGives (SetGives polled steps) held_in old answer new → SoFar polled drawn (outputs ++ option_to_list (output_given answer)) new
+  pub one_poll : (drawn : List F) (outputs : List A) (old new : OrderedBounded F A S) (answer : Poll (Option A)) → SoFar rule.polled drawn outputs old → OrderedGives (SetGives rule source) held_in old answer new → SoFar rule.polled drawn (outputs ++ option_to_list (output_given answer)) new
   one_poll drawn outputs old new answer so h = last_one answer h.last_step
     where
-      then : SoFar polled drawn outputs h.before
+      then : SoFar rule.polled drawn outputs h.before
       then = row_kept h.yielded drawn outputs old h.before so h.row
 
-      last_one : (answer : Poll (Option A)) → LastStep (SetGives polled steps) h.before answer new → SoFar polled drawn (outputs ++ option_to_list (output_given answer)) new
-      last_one (Ready None) step = rw (append-nil outputs) (subst (SoFar polled drawn outputs) (sym step.1) then)
+      last_one : (answer : Poll (Option A)) → LastStep (SetGives rule source) h.before answer new → SoFar rule.polled drawn (outputs ++ option_to_list (output_given answer)) new
+      last_one (Ready None) step = rw (append-nil outputs) (subst (SoFar rule.polled drawn outputs) (sym step.1) then)
       last_one (Ready (Some x)) step = front_gave drawn outputs h.before new x then step.0 step.1
       last_one Pending step =
-          let asks = step.1.1 in
+          let (cx, after, poll) = step.1 in
+          let takes = poll.gave.1.takes in
           rw (append-nil outputs)
           (record {
             gone = then.gone;
             kept = then.kept;
             all = then.all;
             gave = then.gave;
-            came = rw step.2 (ran_on polled asks.0 h.before.set.slots new.set.slots then.kept h.before.entries asks.3.passes then.came);
+            came = rw (step.2, takes.ends.0) (ran_on rule.polled takes.names h.before.set.slots takes.passed then.kept h.before.entries takes.passes then.came);
             once = λ n. rw step.2 (then.once n);
-            as_many = λ n. omega (arith, then.as_many n, numbers_polled n polled steps h.before.set new.set Pending step.1, ap (λ (l : List (Entry A)). count_by (runs_with n) l) step.2);
+            as_many = λ n. omega (arith, then.as_many n, numbers_polled n rule source h.before.set new.set Pending cx after poll, ap (λ (l : List (Entry A)). count_by (runs_with n) l) step.2);
           })
 
 pub nil_of : {X : Type 0} (xs : List X) → length xs ≡ 0 → xs ≡ []
@@ -267,12 +269,12 @@ account polled drawn outputs queue so = record { gone = so.gone; kept = so.kept;
 pub gives_in_order : {St F A S W : Type 0} (stream : StreamOf St F) (future : SlotFutureOf F W A) (source : ReadySourceOf S W) → GivesInOrder stream future source
 gives_in_order stream future source n old new calls empty none_in ran =
     account future.polled _ _ new.queue
-    (many_calls (PollsStream stream.yields) queue_len n (OnlyPushes (AddsBack (PushesNumber source.marks))) (OrderedGives (SetGives future.polled source.steps) held_in) (SoFar future.polled) (drew future.polled source.marks) (λ drawn outputs before after f x so never. absurd never) (one_poll future.polled source.steps)
+    (many_calls (PollsStream stream.yields) queue_len n (OnlyPushes (AddsBack (PushesNumber source.marks))) (OrderedGives (SetGives (itself future) source) held_in) (SoFar future.polled) (drew future.polled source.marks) (λ drawn outputs before after f x so never. absurd never) (one_poll (itself future) source)
     calls [] [] old new (start future.polled old.queue empty none_in) ran)
 
 -- the same where the stream gives errors as well
 pub try_gives_in_order : {St F T E S W : Type 0} (stream : StreamOf St (Result F E)) (future : SlotFutureOf F W (Result T E)) (source : ReadySourceOf S W) → TryGivesInOrder stream future source
 try_gives_in_order stream future source n old new calls empty none_in ran =
-    let so = many_calls (PollsStream stream.yields) queue_len n (PushesOk (OnlyPushes (AddsBack (PushesNumber source.marks)))) (OrderedGives (SetGives future.polled source.steps) held_in) (AmongErrors (SoFar future.polled)) (ok_drew (SoFar future.polled) (AddsBack (PushesNumber source.marks)) (drew future.polled source.marks)) (error_handed (SoFar future.polled) (AddsBack (PushesNumber source.marks))) (queue_gave (SoFar future.polled) (OrderedGives (SetGives future.polled source.steps) held_in) (one_poll future.polled source.steps))
+    let so = many_calls (PollsStream stream.yields) queue_len n (PushesOk (OnlyPushes (AddsBack (PushesNumber source.marks)))) (OrderedGives (SetGives (itself future) source) held_in) (AmongErrors (SoFar future.polled)) (ok_drew (SoFar future.polled) (AddsBack (PushesNumber source.marks)) (drew future.polled source.marks)) (error_handed (SoFar future.polled) (AddsBack (PushesNumber source.marks))) (queue_gave (SoFar future.polled) (OrderedGives (SetGives (itself future) source) held_in) (one_poll (itself future) source))
     calls [] [] old new ([], start future.polled old.queue empty none_in, ([], (refl, refl))) ran in
     (so.0, so.2, account future.polled _ _ new.queue so.1)

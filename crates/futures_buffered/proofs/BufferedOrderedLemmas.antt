@@ -12,7 +12,6 @@ use Rattle.futures.specs.Poll.{OnPending}
 use Rattle.futures_buffered_core.specs.SlotMap.{Slots, value_in}
 use Rattle.futures_buffered_core.proofs.SlotMapLemmas.{value_within}
 use Rattle.futures_buffered_table.specs.declared.answer.Woke.{Woke}
-use Rattle.futures_buffered_core.specs.ReadySource.{SourceSteps}
 use Rattle.futures_buffered_unordered.specs.Held.{MayGive}
 use Rattle.futures_buffered_unordered.specs.FuturesUnorderedBounded.{held_in}
 use Rattle.futures_buffered_unordered.proofs.HeldLemmas.{AllHeld-push, value_inserted, value_inserted_other}
@@ -118,16 +117,16 @@ pub starts_some : {A : Type 0} (es : List (Entry A)) → starts_running es ≡ t
 starts_some [] e = cc
 starts_some (x ∷ xs) e = omega arith
 
-module _ {F A S : Type 0} (polled : ℕ → F → Poll A → F → Type 0) (steps : SourceSteps S) where
+module _ {R F W A S : Type 0} (rule : PollOneOf R F W A) (source : ReadySourceOf S W) where
   -- the queue holds no more than it has slots
-  pub still_fits : (old new : OrderedBounded F A S) (answer : Poll (Option A)) → OrderedGives (SetGives polled steps) held_in old answer new → queue_slots new ≡ queue_slots old → (0 < queue_slots old) × (queue_len old ≤ queue_slots old) → (0 < queue_slots new) × (queue_len new ≤ queue_slots new)
+  pub still_fits : (old new : OrderedBounded F A S) (answer : Poll (Option A)) → OrderedGives (SetGives rule source) held_in old answer new → queue_slots new ≡ queue_slots old → (0 < queue_slots old) × (queue_len old ≤ queue_slots old) → (0 < queue_slots new) × (queue_len new ≤ queue_slots new)
   still_fits old new answer h same fits =
       let some = fits.0 in
       let most = fits.1 in
-      let fewer = no_more_of (SetGives polled steps) held_in old new answer h in
+      let fewer = no_more_of (SetGives rule source) held_in old new answer h in
       (omega (arith, same, some), omega (arith, same, most, fewer))
 
-  pub pending_holds : (old new : OrderedBounded F A S) (answer : Poll (Option A)) → OrderedGives (SetGives polled steps) held_in old answer new → OnPending answer (0 < queue_len new)
+  pub pending_holds : (old new : OrderedBounded F A S) (answer : Poll (Option A)) → OrderedGives (SetGives rule source) held_in old answer new → OnPending answer (0 < queue_len new)
   pending_holds old new (Ready o) h = tt
   pending_holds old new Pending h = subst (λ (es : List (Entry A)). 0 < length es) (sym h.last_step.2) (starts_some h.before.entries h.last_step.0)
 

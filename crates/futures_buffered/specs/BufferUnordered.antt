@@ -7,7 +7,9 @@ use Rattle.futures_buffered_core.specs.SlotMap.{Slots}
 use Rattle.futures_buffered_core.specs.declared.ready_source.ReadySource.{Ghosts as ReadySourceOf}
 use Rattle.futures_buffered_unordered.specs.declared.slot_future.SlotFuture.{Ghosts as SlotFutureOf}
 use Rattle.futures_buffered_unordered.specs.Held.{MayGive}
-use Rattle.futures_buffered_unordered.specs.FuturesUnorderedBounded.{Bounded, Pushes, PollGives, held_in}
+use Rattle.futures_buffered_unordered.specs.FuturesUnorderedBounded.{Bounded, Pushes, held_in}
+use Rattle.futures_buffered_unordered.specs.PollsBounded.{PollsBounded, itself}
+use Rattle.futures_buffered_unordered.specs.StreamAnswers.{OfSomeTask}
 use Rattle.futures_buffered.specs.FutureQueue.{OnlyPushes}
 use Rattle.futures_buffered.specs.Buffer.{Buffering, StreamOf, PollsStream, CallsInTurn, Accounts, all_drawn}
 use Rattle.futures_buffered.specs.Buffer.{all_outputs}
@@ -40,7 +42,7 @@ LosesNothing {St} {F} {A} {S} stream future source =
     (n : ℕ) (old new : Buffering St (Bounded F S))
     (calls : List (List F × Poll (Option A))) → held_in old.queue ≡ 0
     → CallsInTurn (PollsStream stream.yields) held_in n (OnlyPushes (Pushes source.marks))
-    (PollGives future.polled source.steps) old calls new
+    (OfSomeTask (PollsBounded (itself future) source)) old calls new
     → Accounts IsPermutation (MayGiveInSlot future.polled) (WaitsInSlot future.polled)
     (all_drawn calls) (all_outputs calls) (held_values new.queue.slots)
 
@@ -52,7 +54,7 @@ TryLosesNothing {St} {F} {T} {E} {S} stream future source =
     (n : ℕ) (old new : Buffering St (Bounded F S))
     (calls : List (List (Result F E) × Poll (Option (Result T E)))) → held_in old.queue ≡ 0
     → CallsInTurn (PollsStream stream.yields) held_in n (PushesOk (OnlyPushes (Pushes source.marks)))
-    (PollGives future.polled source.steps) old calls new
+    (OfSomeTask (PollsBounded (itself future) source)) old calls new
     → (outputs : List (Result T E)) × WithErrors outputs (all_outputs calls)
     × Accounts IsPermutation (MayGiveInSlot future.polled) (WaitsInSlot future.polled)
     (futures_of (all_drawn calls)) outputs (held_values new.queue.slots)

@@ -5,6 +5,7 @@ use Rattle.futures_buffered_core.specs.SlotMap.{Slots, value_in, slot_count}
 use Rattle.futures_buffered_core.specs.declared.ready_source.ReadySource.{Ghosts as ReadySourceOf}
 use Rattle.futures_buffered_unordered.specs.declared.slot_future.SlotFuture.{Ghosts as SlotFutureOf}
 use Rattle.futures_buffered_unordered.specs.FuturesUnorderedBounded.{held_in}
+use Rattle.futures_buffered_unordered.specs.PollsBounded.{itself}
 use Rattle.futures_buffered_ordered.specs.OrderedEntries.{AddsBack, OrderedGives}
 use Rattle.futures_buffered_ordered.specs.FuturesOrderedBounded.{OrderedBounded, PushesNumber, SetGives}
 use Rattle.futures_buffered_ordered.specs.declared.numbered.Numbered.{Numbered}
@@ -44,7 +45,7 @@ GivesInOrder {St} {F} {A} {S} stream future source =
     (calls : List (List F × Poll (Option A))) → queue_len old.queue ≡ 0
     → held_in old.queue.set ≡ 0
     → CallsInTurn (PollsStream stream.yields) queue_len n (OnlyPushes (AddsBack (PushesNumber source.marks)))
-    (OrderedGives (SetGives future.polled source.steps) held_in) old calls new
+    (OrderedGives (SetGives (itself future) source) held_in) old calls new
     → Accounts (λ drawn items. drawn ≡ items) (MayGiveInSlot future.polled)
     (BecomesEntry future.polled new.queue.set.slots)
     (all_drawn calls) (all_outputs calls) new.queue.entries
@@ -58,7 +59,7 @@ TryGivesInOrder {St} {F} {T} {E} {S} stream future source =
     → held_in old.queue.set ≡ 0
     → CallsInTurn (PollsStream stream.yields) queue_len n
     (PushesOk (OnlyPushes (AddsBack (PushesNumber source.marks))))
-    (OrderedGives (SetGives future.polled source.steps) held_in) old calls new
+    (OrderedGives (SetGives (itself future) source) held_in) old calls new
     → (outputs : List (Result T E)) × WithErrors outputs (all_outputs calls)
     × Accounts (λ drawn items. drawn ≡ items) (MayGiveInSlot future.polled)
     (BecomesEntry future.polled new.queue.set.slots)

@@ -101,7 +101,7 @@ pub type BufferUnordered<St, S = SharedReady> = Buffer<
 /// After any calls of one buffer that held nothing at first, each item taken has given one of the outputs, or is still
 /// held. No output is of two items or of none, and no item is lost.
 ///
-/// This is a law of the relations in the contract of a poll, stated of the set alone. Its body is empty.
+/// This is a law of the relation in the contract of a poll. Its body is empty.
 pub fn calls_lose_nothing<St: Stream, S: ReadySource>()
 where
     St::Item: SlotFuture<S::Waker>,

@@ -16,7 +16,7 @@ pub type TryBufferUnordered<St, F, S = SharedReady> = TryBuffer<St, CompletionQu
 /// After any calls of one such buffer that held nothing at first, each future taken has given one of the outputs, or is
 /// still held. All other answers are errors, between the outputs.
 ///
-/// This is a law of the relations in the contract of a poll, stated of the set alone. Its body is empty.
+/// This is a law of the relation in the contract of a poll. Its body is empty.
 pub fn try_calls_lose_nothing<St, F, T, E, S: ReadySource>()
 where
     St: Stream<Item = Result<F, E>>,

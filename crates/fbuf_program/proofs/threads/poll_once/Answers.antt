@@ -1,14 +1,13 @@
 use Rattle.futures.specs.declared.task.Poll.TheVariants.{Ready, Pending}
-use Rattle.futures_buffered_unordered.proofs.PollsBoundedLemmas.{gives_of}
 use Rattle.fbuf_program.proofs.ThreadsLemmas.{poll_gave, poll_left}
 use Rattle.fbuf_program.proofs.threads.poll_once.Goals as goal
 
 pub returns-in-Ready-clause-numbers : goal.returns-in-Ready-clause-numbers
 returns-in-Ready-clause-numbers g c =
-    poll_gave _ c.args.set.now c.poll_with-polled.new.self (Ready c.in-Ready.first)
-    (gives_of _ _ _ (λ a b h. h) _ _ _ _ _ c.in-Ready.ensures)
+    poll_gave _ _ c.args.set.now c.poll_with-polled.new.self (Ready c.in-Ready.first)
+    _ _ c.in-Ready.ensures
 
 pub returns-clause-numbers : goal.returns-clause-numbers
 returns-clause-numbers g c =
-    poll_left _ c.args.set.now c.poll_with-polled.new.self Pending
-    (gives_of _ _ _ (λ a b h. h) _ _ _ _ _ c.in-Pending.ensures)
+    poll_left _ _ c.args.set.now c.poll_with-polled.new.self Pending
+    _ _ c.in-Pending.ensures

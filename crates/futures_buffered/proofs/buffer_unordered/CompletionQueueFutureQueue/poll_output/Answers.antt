@@ -1,18 +1,17 @@
 use Rattle.std.proofs.Common.{rules, is_some}
 use Rattle.std.proofs.lemmas.List.Sums.{count_by-le-length}
 use Rattle.futures_buffered_unordered.proofs.PollsBoundedLemmas.{answers_as_stream}
-use Rattle.futures_buffered.proofs.BufferUnorderedLemmas.{empty_polled, pending_holds, set_alone}
+use Rattle.futures_buffered.proofs.BufferUnorderedLemmas.{empty_polled, pending_holds}
 use Rattle.futures_buffered.proofs.buffer_unordered.CompletionQueueFutureQueue.poll_output.Goals as goal
 
 pub returns : goal.returns
 returns g c =
     let source = g.S.ReadySource in
     let poll = c.poll_next.ensures in
-    let gives = set_alone g.F.SlotFuture source c.self.inside.set c.poll_next.new.self c.poll_next.result c.args.cx.now c.poll_next.new.cx poll in
     let stream = answers_as_stream _ source _ _ _ _ _ poll in
     rw (← c.self.view_is) (record {
       polled = poll;
-      empty = empty_polled g.F.SlotFuture.polled source.steps c.self.inside.set c.poll_next.new.self c.poll_next.result gives;
+      empty = empty_polled g.F.SlotFuture source _ _ _ _ _ poll;
       holds = pending_holds g.F.SlotFuture source _ _ _ _ _ poll;
       fewer = poll.fewer;
       same_count = poll.same;
