@@ -7,7 +7,7 @@ ghost use Rattle.futures_buffered.specs.FutureQueue.{OnlyPushes};
 ghost use Rattle.futures_buffered.specs.BufferUnordered.{LosesNothing, MayGiveInSlot, SetWaitsAt};
 
 use crate::buffer::Buffer;
-use crate::future_queue::{FutureQueue, NewQueue};
+use crate::future_queue::{FutureQueue, LimitedQueue, NewQueue};
 use futures::Stream;
 use futures::task::{Context, Poll};
 use futures_buffered_core::ready_core::NewFault;
@@ -89,6 +89,18 @@ impl<F: SlotFuture<S::Waker>, S: ReadySource> FutureQueue<F> for CompletionQueue
 
     fn poll_output(&mut self, cx: &mut Context<'_>) -> Poll<Option<F::Output>> {
         self.set.poll_next(cx)
+    }
+}
+
+impl<F: SlotFuture<S::Waker>, S: ReadySource> LimitedQueue<F> for CompletionQueue<F, S> {
+    ghost limit = { λ set. set.limit };
+
+    ghost push_keeps = { λ old item new pushed. pushed.1.same_limit };
+
+    ghost poll_keeps = { λ old answer new cx left polled. polled.limit };
+
+    fn limit(&self) -> usize {
+        self.set.limit()
     }
 }
 

@@ -3,7 +3,7 @@
 //! A buffer is written once, for any such queue. The outputs of a `CompletionQueue`, and of a `FuturesUnorderedBounded`
 //! of `in_flight`, come as the futures finish. An `OrderedQueue` keeps the order of the pushes. A `TryQueue` is made of
 //! any of them, and accepts errors also.
-ghost use Rattle.std.specs.Prelude.{◌≡◌, ◌<◌, ◌≤◌, ℕ, Bool, List, Option};
+ghost use Rattle.std.specs.Prelude.{◌≡◌, ◌<◌, ◌≤◌, ℕ, Bool, List, None, Option};
 ghost use Rattle.futures_buffered_core.specs.Made.{MakesSlots};
 ghost use Rattle.futures_buffered_unordered.specs.StreamAnswers.{stream_of};
 ghost use Rattle.futures_buffered.specs.FutureQueue.{PollsFutureQueue, PushAddsOutput, PushLeavesQueue};
@@ -89,6 +89,27 @@ pub trait FutureQueue<I>: Drop {
     fn buffer_name() -> &'static str {
         "Buffer"
     }
+}
+
+/// A queue of futures with a limit on its polls.
+pub trait LimitedQueue<I>: FutureQueue<I> {
+    ghost use Rattle.futures.specs.declared.task.Poll.{Poll};
+    ghost use Rattle.futures.specs.declared.task.context.Context.{Context};
+
+    // How many ready slots one poll dequeues at most.
+    ghost limit: { Self → ℕ };
+
+    /// Returns how many ready slots one poll dequeues at most, which never changes.
+    fn limit(&self) -> usize
+        ensures value { result ≡ limit self.now }
+        ensures some { 1 ≤ result };
+
+    // Neither a push nor a poll changes the limit.
+    ghost push_keeps: { (old : Self) (item : I) (new : Self)
+        → Self.pushes old item None new → limit new ≡ limit old };
+
+    ghost poll_keeps: { (old : Self) (answer : Poll (Option Self.Output)) (new : Self) (cx left : Context)
+        → Self.polls old answer new cx left → limit new ≡ limit old };
 }
 
 /// A queue that a buffer can make for itself.

@@ -7,7 +7,7 @@
 //!
 //! In the order in which to read them:
 //!
-//! - `future_queue`: `FutureQueue`, what an adaptor holds, and `NewQueue`.
+//! - `future_queue`: `FutureQueue`, what an adaptor holds, `LimitedQueue` and `NewQueue`.
 //! - `buffer`: `Buffer`, the adaptor over any such queue.
 //! - `buffer_unordered`: `BufferUnordered`, whose outputs come as the futures finish.
 //! - `in_flight`: the same types for futures of `futures`, and the queues that their buffers hold.
