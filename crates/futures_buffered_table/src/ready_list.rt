@@ -1,14 +1,17 @@
 //! The list on atomic words, and its seats.
-ghost use Rattle.std.specs.Prelude.{◌≡◌, [], IfOk};
-ghost use Rattle.futures_buffered_table.specs.Beginning.{all_wakes, steps_at_first};
+ghost use Rattle.std.specs.Prelude.{◌≡◌, ◌<◌, ◌^◌, [], IfOk, length};
+ghost use Rattle.futures_buffered_table.specs.Beginning.{all_wakes, first_view, steps_at_first, words_at_first};
 
 use crate::answer::{MAX_CAPACITY, NewFault};
 use crate::rule::{FirstWaker, ListKey, NewWaker, RowRule};
 use crate::view::View;
-use crate::words::words_of;
+use crate::words::{fill_words, words_of};
 use atomic_table::{Seat, Table};
-use std::alloc::Global;
+use std::alloc::{AllocError, Global};
 use std::marker::Model;
+
+// A list of at most so many slots has its first words on the stack.
+const FEW: usize = 4;
 
 /// The words of the list, which any number of threads may share by a `&`. No call blocks.
 #[derive(Drop)]
@@ -117,6 +120,27 @@ impl ReadyList {
         Self::begin(alloc, ListKey { capacity, full })
     }
 
+    // The table of a list that begins as this key says. The words of few slots are filled on the
+    // stack, those of more in a vector.
+    fn begin_table(
+        alloc: Global,
+        key: ListKey,
+    ) -> Result<(Table<u8, View, ListKey, RowRule, Global>, Seat<u8, View>), AllocError>
+        requires { key.capacity < 2 ^ 62 }
+        ensures { IfOk result (λ r. (r.0.shared.table_id.words ≡ length (words_at_first key))
+            × (r.0.shared.table_id.slots ≡ 0) × (r.1.table_id ≡ r.0.shared.table_id)
+            × (r.1.id ≡ 0) × (r.1.me ≡ (first_view key, [])) × (r.0.shared.key ≡ key)) }
+    {
+        if key.capacity > FEW {
+            let words = words_of(alloc, key)?;
+            return Table::of_words(alloc, words.as_slice(), &key);
+        }
+        let mut room = [0; 2 * FEW + 2];
+        let words = &mut room[..key.capacity + key.capacity + 2];
+        fill_words(words, key);
+        Table::of_words(alloc, words, &key)
+    }
+
     // A list that begins as this key says, with its seats. The wake seat has the steps with which
     // it begins.
     fn begin(alloc: Global, key: ListKey) -> Result<(ReadyList, PollSeat, WakeSeat), NewFault>
@@ -131,12 +155,7 @@ impl ReadyList {
         if capacity > MAX_CAPACITY {
             return Err(NewFault::TooLarge);
         }
-        let words = words_of(alloc, key)?;
-        let (table, mut seat) = Table::<u8, View, ListKey, RowRule, Global>::of_words(
-            alloc,
-            words.as_slice(),
-            &key,
-        )?;
+        let (table, mut seat) = Self::begin_table(alloc, key)?;
         let other = table.shared.split_seat::<FirstWaker>(&mut seat);
         let poll = PollSeat {
             seat,

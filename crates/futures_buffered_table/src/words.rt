@@ -1,5 +1,5 @@
 //! The words of a list, as they begin.
-ghost use Rattle.std.specs.Prelude.{◌≡◌, ◌<◌, ◌^◌, IfOk};
+ghost use Rattle.std.specs.Prelude.{◌≡◌, ◌<◌, ◌+◌, ◌^◌, IfOk, replicate};
 ghost use Rattle.futures_buffered_table.specs.Beginning.{full_words, words_at_first};
 ghost use Rattle.futures_buffered_table.specs.Words.{empty_words};
 
@@ -19,9 +19,9 @@ pub fn first_words(alloc: Global, capacity: usize) -> Result<Vec<u64>, AllocErro
 }
 
 // Marks the slots of an empty list, in order, and puts them in its row.
-fn mark_in_order(words: &mut Vec<u64>, capacity: usize)
-    requires { (capacity < 2 ^ 62) × (words.old.items ≡ empty_words capacity) }
-    ensures { words.new.items ≡ full_words capacity }
+fn mark_in_order(words: &mut [u64], capacity: usize)
+    requires { (capacity < 2 ^ 62) × (words.old ≡ empty_words capacity) }
+    ensures { words.new ≡ full_words capacity }
 {
     let mut before = capacity;
     'slots: for slot in 0..capacity {
@@ -39,7 +39,19 @@ pub fn words_of(alloc: Global, key: ListKey) -> Result<Vec<u64>, AllocError>
 {
     let mut words = first_words(alloc, key.capacity)?;
     if key.full {
-        mark_in_order(&mut words, key.capacity);
+        mark_in_order(words.as_mut_slice(), key.capacity);
     }
     Ok(words)
+}
+
+// Writes the words of a list that begins as this key says over as many zeros.
+pub fn fill_words(words: &mut [u64], key: ListKey)
+    requires { (key.capacity < 2 ^ 62)
+        × (words.old ≡ replicate (key.capacity + key.capacity + 2) 0) }
+    ensures { words.new ≡ words_at_first key }
+{
+    words[key.capacity + key.capacity + 1] = key.capacity as u64;
+    if key.full {
+        mark_in_order(words, key.capacity);
+    }
 }

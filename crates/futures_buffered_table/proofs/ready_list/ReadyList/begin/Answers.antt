@@ -1,18 +1,12 @@
-use Rattle.std.proofs.Common.{rules, arith, ◌≡◌, ◌+◌, length, ap, ◌∙◌}
-use Rattle.futures_buffered_table.specs.Beginning.{words_at_first}
+use Rattle.std.proofs.Common.{rules, arith, ◌≡◌, ◌+◌, ap, ◌∙◌}
 use Rattle.futures_buffered_table.specs.declared.rule.ListKey.{ListKey}
-use Rattle.futures_buffered_table.proofs.BeginningLemmas.{begins, begun_poller, begun_unmarks_none, begun_waker, first_wide, hands_on}
+use Rattle.futures_buffered_table.proofs.BeginningLemmas.{begun_poller, begun_unmarks_none, begun_waker, first_wide, hands_on}
 use Rattle.futures_buffered_table.proofs.ready_list.ReadyList.begin.Goals as goal
-
-pub of_words-requires : goal.of_words-requires
-of_words-requires c = begins c.args.key c.as_slice.result.now
-    (let a : c.as_slice.result.now ≡ words_at_first c.args.key = search rules in a)
 
 pub split_seat-other-requires : goal.split_seat-other-requires
 split_seat-other-requires c =
     let made = c.in_ok-table.ensures in let key = c.args.key in let table = c.in_ok-table.table.shared.table_id in
-    let is : c.as_slice.result.now ≡ words_at_first key = search rules in
-    let wide : table.words ≡ key.capacity + key.capacity + 2 = made.0 ∙ (ap length is ∙ first_wide key) in
+    let wide : table.words ≡ key.capacity + key.capacity + 2 = made.0 ∙ first_wide key in
     let me = c.in_ok-table.seat.me in (
       made.2,
       omega arith,
@@ -22,15 +16,13 @@ split_seat-other-requires c =
 pub invariant_of-poll : goal.invariant_of-poll
 invariant_of-poll c =
     let made = c.in_ok-table.ensures in let split = c.split_seat-other.ensures in let key = c.args.key in
-    let is : c.as_slice.result.now ≡ words_at_first key = search rules in
-    begun_poller key _ (ap (λ t. t.words) (split.0 ∙ made.2) ∙ (made.0 ∙ (ap length is ∙ first_wide key))) _ made.4 _ split.2
+    begun_poller key _ (ap (λ t. t.words) (split.0 ∙ made.2) ∙ (made.0 ∙ first_wide key)) _ made.4 _ split.2
 
 pub invariant_of-result : goal.invariant_of-result
 invariant_of-result c =
     let made = c.in_ok-table.ensures in let key = c.args.key in
-    let is : c.as_slice.result.now ≡ words_at_first key = search rules in
     record {
-      words = made.0 ∙ (ap length is ∙ first_wide key);
+      words = made.0 ∙ first_wide key;
       slots = made.1;
       keyed = ap (λ (k : ListKey). k.capacity) made.5;
       sized = search rules;
@@ -39,5 +31,4 @@ invariant_of-result c =
 pub invariant_of-result-2 : goal.invariant_of-result-2
 invariant_of-result-2 c =
     let made = c.in_ok-table.ensures in let split = c.split_seat-other.ensures in let key = c.args.key in
-    let is : c.as_slice.result.now ≡ words_at_first key = search rules in
-    begun_waker key _ (ap (λ t. t.words) (split.3 ∙ made.2) ∙ (made.0 ∙ (ap length is ∙ first_wide key))) _ made.4 _ split.4
+    begun_waker key _ (ap (λ t. t.words) (split.3 ∙ made.2) ∙ (made.0 ∙ first_wide key)) _ made.4 _ split.4
