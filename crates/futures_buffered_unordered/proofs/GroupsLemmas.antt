@@ -8,7 +8,7 @@ use Rattle.std.proofs.lemmas.Bool.Decides.{nat_tests}
 use Rattle.futures.specs.declared.task.context.Context.{Context}
 use Rattle.futures.specs.declared.task.Poll.{Poll}
 use Rattle.futures.specs.declared.task.Poll.TheVariants.{Ready, Pending}
-use Rattle.futures_buffered_unordered.specs.Groups.{AnyOf, AsksInTurn, AsksOne, Groups, LeavesBetween, next_place}
+use Rattle.futures_buffered_unordered.specs.Groups.{AnyOf, AsksEach, AsksEachOnce, AsksInTurn, AsksOne, Groups, LeavesBetween, in_turn, next_place}
 
 -- lists that are put together alike, with first parts of one length, have the same parts
 pub same_parts : {X : Type 0} (ps qs rs ts : List X) → length ps ≡ length qs → ps ++ rs ≡ qs ++ ts → (ps ≡ qs) × (rs ≡ ts)
@@ -34,34 +34,35 @@ next_zero : {X : Type 0} (g : Groups X) → (length g.listed ≤ g.place) ⊎ (g
 next_zero g where_at = grind (arith, nat_tests)
 
 module _ {X : Type 0} where
-  -- the groups in the order in which they are polled next
-  abbrev pub round : Groups X → List X
-  round g = drop (next_place g) g.listed ++ take (next_place g) g.listed
-
   -- the groups after the one that is polled next
   abbrev pub others : Groups X → List X
   others g = drop (next_place g + 1) g.listed ++ take (next_place g) g.listed
 
-  round_at : (g : Groups X) (earlier rest : List X) → g.listed ≡ earlier ++ rest → next_place g ≡ length earlier → round g ≡ rest ++ earlier
+  turn_length : (g : Groups X) → length (in_turn g) ≡ length g.listed
+  turn_length g =
+      let p = next_place g in
+      omega (arith, length-append (drop p g.listed) (take p g.listed), length-append (take p g.listed) (drop p g.listed), ap length (take-append-drop p g.listed))
+
+  round_at : (g : Groups X) (earlier rest : List X) → g.listed ≡ earlier ++ rest → next_place g ≡ length earlier → in_turn g ≡ rest ++ earlier
   round_at g earlier rest is at =
       ap (λ (k : ℕ). drop k g.listed ++ take k g.listed) at
       ∙ ap (λ (l : List X). drop (length earlier) l ++ take (length earlier) l) is
       ∙ ap (λ (l : List X). l ++ take (length earlier) (earlier ++ rest)) (drop_at earlier rest (length earlier) refl)
       ∙ ap (λ (l : List X). rest ++ l) (take_at earlier rest (length earlier) refl)
 
-  round_within : (g : Groups X) (earlier : List X) (x : X) (rest : List X) → g.listed ≡ earlier ++ x ∷ rest → g.place ≡ length earlier → round g ≡ x ∷ rest ++ earlier
+  round_within : (g : Groups X) (earlier : List X) (x : X) (rest : List X) → g.listed ≡ earlier ++ x ∷ rest → g.place ≡ length earlier → in_turn g ≡ x ∷ rest ++ earlier
   round_within g earlier x rest is at =
       let long = length-append earlier (x ∷ rest) in
       round_at g earlier (x ∷ rest) is (next_at g (length earlier) at (omega (arith, long, ap length is)))
 
--- what a poll of its first group makes of a round
+-- what a poll of the first group makes of the groups in turn
 abbrev pub Turned : {X A : Type 0} → X → List X → Poll (Option A) → List X → Type 0
 Turned left rest (Ready (Some x)) after = after ≡ left ∷ rest
 Turned left rest Pending after = after ≡ rest ++ left ∷ []
 Turned left rest (Ready None) after = (after ≡ rest) ⊎ (after ≡ rest ++ left ∷ [])
 
 module _ {X A : Type 0} where
-  turned : (earlier later : List X) (left : X) (answer : Poll (Option A)) (new : Groups X) → LeavesBetween earlier later left answer new → Turned left (later ++ earlier) answer (round new)
+  turned : (earlier later : List X) (left : X) (answer : Poll (Option A)) (new : Groups X) → LeavesBetween earlier later left answer new → Turned left (later ++ earlier) answer (in_turn new)
   turned earlier later left (Ready (Some x)) new h = round_within new earlier left later h.0 h.1
   turned earlier [] left Pending new h =
       let long = length_push earlier left in
@@ -73,14 +74,42 @@ module _ {X A : Type 0} where
   turned earlier (next ∷ later) left (Ready None) new h = inl (round_within new earlier next later h.0 h.1)
 
   module _ (asks : X → Poll (Option A) → X → Context → Context → Type 0) (old : Groups X) (answer : Poll (Option A)) (new : Groups X) (cx left : Context) (one : AsksOne asks old answer new cx left) where
-    pub first_of_round : round old ≡ one.group ∷ others old
+    pub first_of_round : in_turn old ≡ one.group ∷ others old
     first_of_round =
         let p = next_place old in
         let long = length-append (take p old.listed) (one.group ∷ drop (p + 1) old.listed) in
         round_at old (take p old.listed) (one.group ∷ drop (p + 1) old.listed) one.stood (omega (arith, long, ap length one.stood, length-take p old.listed, length-drop (p + 1) old.listed))
 
-    pub round_turned : Turned one.group_left (others old) answer (round new)
+    pub round_turned : Turned one.group_left (others old) answer (in_turn new)
     round_turned = turned (take (next_place old) old.listed) (drop (next_place old + 1) old.listed) one.group_left answer new one.leaves
+
+-- each group of a poll is the next in turn, and was not polled before
+module _ {X A : Type 0} (asks : Bool → X → Poll (Option A) → X → Context → Context → Type 0) where
+  turns_each : (n : ℕ) (b : Bool) (old : Groups X) (answer : Poll (Option A)) (new : Groups X) (cx left : Context) → AsksInTurn asks n b old answer new cx left → (todo done : List X) → in_turn old ≡ todo ++ done → length todo ≡ n → AsksEach asks todo b answer cx left
+  turns_each zero b old answer new cx left (e, same, stays) [] done is long = (e, stays)
+  turns_each zero b old answer new cx left h (t ∷ todo) done is long = absurd (omega (arith, long))
+  turns_each (suc n) b old answer new cx left h [] done is long = absurd (omega (arith, long))
+  turns_each (suc n) b old answer new cx left (inl (x, e, one)) (t ∷ todo) done is long =
+      let first : one.group ≡ t = let head = first_of_round (asks b) old answer new cx left one in cc in
+      (one.group_left, inl (x, e, subst (λ (g : X). asks b g answer one.group_left cx left) first one.asked))
+  turns_each (suc n) b old answer new cx left (inr (inl (now, task, one, more))) (t ∷ todo) done is long =
+      let head = first_of_round (asks b) old Pending now cx task one in
+      let first : one.group ≡ t = cc in
+      let rest : others old ≡ todo ++ done = cc in
+      let turn = round_turned (asks b) old Pending now cx task one ∙ ap (λ (l : List X). l ++ one.group_left ∷ []) rest ∙ append_assoc todo done (one.group_left ∷ []) in
+      (one.group_left, inr (inl (task, subst (λ (g : X). asks b g Pending one.group_left cx task) first one.asked, turns_each n true now answer new task left more todo (done ++ one.group_left ∷ []) turn (omega (arith, long)))))
+  turns_each (suc n) b old answer new cx left (inr (inr (now, task, one, more))) (t ∷ todo) done is long =
+      let head = first_of_round (asks b) old (Ready None) now cx task one in
+      let first : one.group ≡ t = cc in
+      let rest : others old ≡ todo ++ done = cc in
+      let later : AsksEach asks todo b answer task left = elim (round_turned (asks b) old (Ready None) now cx task one) [
+        | inl leaves ↦ turns_each n b now answer new task left more todo done (leaves ∙ rest) (omega (arith, long))
+        | inr stays ↦ turns_each n b now answer new task left more todo (done ++ one.group_left ∷ []) (stays ∙ ap (λ (l : List X). l ++ one.group_left ∷ []) rest ∙ append_assoc todo done (one.group_left ∷ [])) (omega (arith, long))
+      ] in
+      (one.group_left, inr (inr (task, subst (λ (g : X). asks b g (Ready None) one.group_left cx task) first one.asked, later)))
+
+  pub asks_each_once : AsksEachOnce asks
+  asks_each_once old answer new cx left h = turns_each (length old.listed) false old answer new cx left h (in_turn old) [] (sym (append-nil (in_turn old))) (turn_length old)
 
 -- What all groups weigh. The result of a group takes from the weight of that group.
 module _ {X A : Type 0} (asks : Bool → X → Poll (Option A) → X → Context → Context → Type 0) (weight : X → ℕ) (out : Poll (Option A) → ℕ)
@@ -173,7 +202,7 @@ module _ {X A : Type 0} (asks : Bool → X → Poll (Option A) → X → Context
   weighs_last true total answer polled pends ends = rw (pends refl) polled
   weighs_last false total answer polled pends ends = rw (ends refl) polled
 
-  round_sum : (g : Groups X) → sum_by weight (round g) ≡ sum_by weight g.listed
+  round_sum : (g : Groups X) → sum_by weight (in_turn g) ≡ sum_by weight g.listed
   round_sum g =
       let p = next_place g in
       omega (arith, sum_by-append weight (drop p g.listed) (take p g.listed), sum_by-append weight (take p g.listed) (drop p g.listed), ap (λ (l : List X). sum_by weight l) (take-append-drop p g.listed))
@@ -182,7 +211,7 @@ module _ {X A : Type 0} (asks : Bool → X → Poll (Option A) → X → Context
   still_polled true done left none polled = omega (arith, none, polled, sum_by-append weight done (left ∷ []), sum_by-cons weight left [])
   still_polled false done left none polled = omega (arith, none, polled, sum_by-append weight done (left ∷ []), sum_by-cons weight left [])
 
-  turns_on : (n : ℕ) (b : Bool) (old : Groups X) (answer : Poll (Option A)) (new : Groups X) (cx left : Context) → AsksInTurn asks n b old answer new cx left → (todo done : List X) → round old ≡ todo ++ done → length todo ≡ n → Polled b (sum_by weight done) → Weighs answer (sum_by weight new.listed)
+  turns_on : (n : ℕ) (b : Bool) (old : Groups X) (answer : Poll (Option A)) (new : Groups X) (cx left : Context) → AsksInTurn asks n b old answer new cx left → (todo done : List X) → in_turn old ≡ todo ++ done → length todo ≡ n → Polled b (sum_by weight done) → Weighs answer (sum_by weight new.listed)
   turns_on zero b old answer new cx left (e, same, stays) [] done is long polled =
       let total : sum_by weight done ≡ sum_by weight new.listed = sym (ap (λ (l : List X). sum_by weight l) is) ∙ round_sum old ∙ sym (ap (λ (g : Groups X). sum_by weight g.listed) same) in
       weighs_last b (sum_by weight new.listed) answer (subst (Polled b) total polled) (λ is. rw is at e) (λ is. rw is at e)
@@ -205,9 +234,7 @@ module _ {X A : Type 0} (asks : Bool → X → Poll (Option A) → X → Context
   -- a whole poll
   pub turns_weigh : (old : Groups X) (answer : Poll (Option A)) (new : Groups X) (cx left : Context) → AsksInTurn asks (length old.listed) false old answer new cx left → Weighs answer (sum_by weight new.listed)
   turns_weigh old answer new cx left h =
-      let p = next_place old in
-      let long : length (round old) ≡ length old.listed = omega (arith, length-append (drop p old.listed) (take p old.listed), length-append (take p old.listed) (drop p old.listed), ap length (take-append-drop p old.listed)) in
-      turns_on (length old.listed) false old answer new cx left h (round old) [] (sym (append-nil (round old))) long refl
+      turns_on (length old.listed) false old answer new cx left h (in_turn old) [] (sym (append-nil (in_turn old))) (turn_length old) refl
 
   -- a poll that ends with an output, where its group still weighs something
   pub output_weighs : (x : A) → ((b : Bool) (group left : X) (cx after : Context) → asks b group (Ready (Some x)) left cx after → 0 < weight left) → (n : ℕ) (b : Bool) (old new : Groups X) (cx left : Context) → AsksInTurn asks n b old (Ready (Some x)) new cx left → 0 < sum_by weight new.listed

@@ -1,14 +1,16 @@
 -- From one round of a merge to a poll of it.
-use Rattle.std.proofs.Common.{◌≡◌, ◌+◌, ℕ, [], ◌∷◌, Option, Some, None, ◌<◌, refl, ap, arith, ◌∙◌}
+use Rattle.std.proofs.Common.{◌≡◌, ◌⊎◌, ◌+◌, ℕ, List, [], ◌∷◌, Option, Some, None, true, ◌<◌, refl, sym, ap, subst, inl, arith, ◌∙◌}
+use Rattle.std.specs.List.{FoldsTo}
 use Rattle.futures.specs.declared.task.context.Context.{Context}
 use Rattle.futures.specs.declared.task.Poll.{Poll}
 use Rattle.futures.specs.declared.task.Poll.TheVariants.{Ready, Pending}
 use Rattle.futures_buffered_core.specs.SlotMap.{Slots, slot_count}
 use Rattle.futures_buffered_table.specs.declared.answer.Woke.{Woke}
-use Rattle.futures_buffered_unordered.specs.FuturesUnorderedBounded.{Bounded, held_in, with_empty_slot}
+use Rattle.futures_buffered_unordered.specs.FuturesUnorderedBounded.{Bounded, IsWoken, held_in, with_empty_slot}
 use Rattle.futures_buffered_unordered.specs.Held.{AllHeld}
-use Rattle.futures_buffered_unordered.specs.PollsBounded.{ReadySourceOf, RegistersAndTakes}
-use Rattle.futures_buffered_unordered.specs.Merging.{PollsMergeBounded, SlotStreamOf, each_stream}
+use Rattle.futures_buffered_unordered.specs.PollsBounded.{ReadySourceOf, RegistersAndTakes, unless_registered}
+use Rattle.futures_buffered_unordered.proofs.PollsBoundedLemmas.{output_leaves, pending_leaves}
+use Rattle.futures_buffered_unordered.specs.Merging.{LastRound, PollsMergeBounded, RoundEnds, SlotStreamOf, each_stream}
 
 -- two sets that differ in their source alone
 same_but_source : {F S : Type 0} (left new : Bounded F S) → new.slots ≡ left.slots → new.limit ≡ left.limit → new ≡ record left { source = new.source }
@@ -103,3 +105,17 @@ module _ {St W A S : Type 0} (stream : SlotStreamOf St W A) (source : ReadySourc
           kept = λ fact h. p.kept fact (asks.kept fact h);
           pollable = p.pollable;
         }
+
+-- a poll of a merge whose task is registered already leaves the task, or wakes it
+module _ {St W A S : Type 0} (stream : SlotStreamOf St W A) (source : ReadySourceOf S W) where
+  rounds_leave : (ended : List ℕ) (old new : Bounded St S) (cx left : Context) → FoldsTo (RoundEnds stream (unless_registered true source)) (old, cx) ended (new, left) → left ≡ cx
+  rounds_leave [] old new cx left h = ap (λ (p : Bounded St S × Context). p.1) (sym h)
+  rounds_leave (i ∷ ended) old new cx left ((mid, then), (some, (before, asks, freed)), rounds) = rounds_leave ended mid new then left rounds ∙ output_leaves (each_stream stream) source old before cx then i None asks
+
+  last_leaves : (old new : Bounded St S) (answer : Poll (Option A)) (cx left : Context) → LastRound stream (unless_registered true source) old answer new cx left → (left ≡ cx) ⊎ IsWoken left
+  last_leaves old new (Ready None) cx left h = inl h.2
+  last_leaves old new (Ready (Some x)) cx left (some, (i, before, asks, marked, same)) = inl (output_leaves (each_stream stream) source old before cx left i (Some x) asks)
+  last_leaves old new Pending cx left h = pending_leaves (each_stream stream) source old new cx left h.1
+
+  pub merged_leaves : (old new : Bounded St S) (answer : Poll (Option A)) (cx left : Context) → PollsMergeBounded stream (unless_registered true source) old answer new cx left → (left ≡ cx) ⊎ IsWoken left
+  merged_leaves old new answer cx left it = subst (λ (task : Context). (left ≡ task) ⊎ IsWoken left) (rounds_leave it.ended old it.before cx it.task_then it.rounds) (last_leaves it.before new answer it.task_then left it.last_round)

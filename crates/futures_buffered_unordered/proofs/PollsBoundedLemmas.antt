@@ -1,5 +1,5 @@
 -- A poll of a bounded set: what it has asked so far, how it ends, and the poll as one of a stream.
-use Rattle.std.proofs.Common.{◌≡◌, ℕ, ◌+◌, ◌<◌, true, List, [], ◌∷◌, ◌++◌, map, length, Option, Some, None, is_some, refl, sym, ap, subst, arith, append-nil, length-set, ◌∙◌}
+use Rattle.std.proofs.Common.{◌≡◌, ◌⊎◌, inl, inr, ℕ, ◌+◌, ◌<◌, true, List, [], ◌∷◌, ◌++◌, map, length, Option, Some, None, is_some, refl, sym, ap, subst, arith, append-nil, length-set, ◌∙◌}
 use Rattle.std.specs.List.{FoldsTo}
 use Rattle.std.specs.Option.{option_to_list}
 use Rattle.std.proofs.lemmas.Fn.{FoldsTo-push}
@@ -10,10 +10,10 @@ use Rattle.futures.specs.declared.task.Poll.{Poll}
 use Rattle.futures.specs.declared.task.Poll.TheVariants.{Ready, Pending}
 use Rattle.futures_buffered_core.specs.SlotMap.{Slots, value_in, held_count, slot_count, with_value}
 use Rattle.futures_buffered_table.specs.declared.answer.Taken.{Taken}
-use Rattle.futures_buffered_table.specs.declared.answer.Taken.TheVariants.{Slot}
+use Rattle.futures_buffered_table.specs.declared.answer.Taken.TheVariants.{Slot, Empty, Pause}
 use Rattle.futures_buffered_unordered.specs.StreamAnswers.{StreamAnswers, stream_of}
 use Rattle.futures_buffered_unordered.specs.Held.{AllHeld, ComesFrom, EndsWith, Passes}
-use Rattle.futures_buffered_unordered.specs.FuturesUnorderedBounded.{Bounded, held_in, with_empty_slot}
+use Rattle.futures_buffered_unordered.specs.FuturesUnorderedBounded.{Bounded, IsWoken, held_in, with_empty_slot}
 use Rattle.futures_buffered_unordered.specs.PollsBounded.{EndsPending, PollOneOf, PollsBounded, ReadySourceOf, RegistersAndTakes, TakesNames, unless_registered}
 use Rattle.futures_buffered_unordered.proofs.HeldLemmas.{AllHeld-with, others-with, count-with, same-with, value_in-with_value, passes_pending}
 use Rattle.futures_buffered_unordered.proofs.StreamAnswersLemmas.{answers_of, covers_fewer}
@@ -137,6 +137,26 @@ takes_registered {R} {F} {W} {A} {S} rule source old new answer cx left it =
       takes = grind arith;
       kept = it.kept;
     }
+
+module _ {R F W A S : Type 0} (rule : PollOneOf R F W A) (source : ReadySourceOf S W) (old new : Bounded F S) (cx left : Context) where
+  -- a round of a set whose task is registered already leaves the task, or wakes it
+  pub output_leaves : (i : ℕ) (x : A) → RegistersAndTakes rule (unless_registered true source) old (Ready (i, x)) new cx left → left ≡ cx
+  output_leaves i x asks = asks.takes.ends.3 ∙ asks.registers_task
+
+  pub pending_leaves : RegistersAndTakes rule (unless_registered true source) old Pending new cx left → (left ≡ cx) ⊎ IsWoken left
+  pending_leaves asks = by_last asks.takes.last asks.takes.ends.1
+    where
+      by_last : (last : Option Taken) → EndsPending old.limit (length asks.takes.names) last asks.task_then left → (left ≡ cx) ⊎ IsWoken left
+      by_last (Some Empty) h = inl (h.1 ∙ asks.registers_task)
+      by_last (Some Pause) h = inr h.1
+      by_last (Some (Slot i)) h = absurd h
+      by_last None h = inr h.1
+
+-- and so does a poll
+pub poll_leaves : {R F W A S : Type 0} (rule : PollOneOf R F W A) (source : ReadySourceOf S W) (old new : Bounded F S) (answer : Poll (Option A)) (cx left : Context) → PollsBounded rule (unless_registered true source) old answer new cx left → (left ≡ cx) ⊎ IsWoken left
+poll_leaves rule source old new (Ready None) cx left it = inl it.gave.2
+poll_leaves rule source old new (Ready (Some x)) cx left it = inl (output_leaves rule source old it.gave.1.1 cx left it.gave.1.0 x it.gave.1.2)
+poll_leaves rule source old new Pending cx left it = pending_leaves rule source old new cx left it.gave.1
 
 -- from one round of a set that holds a value to a poll
 module _ {R F W A S : Type 0} (rule : PollOneOf R F W A) (source : ReadySourceOf S W) (old new : Bounded F S) (cx left : Context) (some : 0 < held_in old) where

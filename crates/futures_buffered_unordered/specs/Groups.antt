@@ -1,7 +1,7 @@
 -- Groups in a list, and one poll of them: which are polled and in what order, which leave, and where the next poll
 -- begins. How one group is polled is a parameter, so a group can be a set or a merge.
 use Rattle.std.specs.Prelude.{◌≡◌, ◌⊎◌, ℕ, zero, suc, ◌+◌, Bool, true, cond, nat_lt, List, [], ◌∷◌, ◌++◌, length, take}
-use Rattle.std.specs.Prelude.{drop, Option, Some, None, refl}
+use Rattle.std.specs.Prelude.{drop, false, Option, Some, None, refl}
 use Rattle.std.specs.Coded.{Coded, code_by, coded×, coded_ℕ, coded_list}
 use Rattle.futures.specs.declared.task.context.Context.{Context}
 use Rattle.futures.specs.declared.task.Poll.{Poll}
@@ -82,3 +82,27 @@ AsksInTurn {X} {A} asks (suc n) is_registered old answer new cx left =
     ⊎ ((now : Groups X) × (task : Context)
     × AsksOne (asks is_registered) old (Ready None) now cx task
     × AsksInTurn asks n is_registered now answer new task left))
+
+-- the groups in the order in which the next poll polls them
+abbrev pub in_turn : {X : Type 0} → Groups X → List X
+in_turn g = drop (next_place g) g.listed ++ take (next_place g) g.listed
+
+-- The groups of a list are polled in its order, each once, until one returns an output. `is_registered` says whether a
+-- group polled before them is pending.
+abbrev pub AsksEach : {X A : Type 0} → (Bool → X → Poll (Option A) → X → Context → Context → Type 0) → List X → Bool
+    → Poll (Option A) → Context → Context → Type 0
+AsksEach asks [] is_registered answer cx left = (answer ≡ cond is_registered Pending (Ready None)) × (left ≡ cx)
+AsksEach {X} {A} asks (group ∷ later) is_registered answer cx left = (group_left : X)
+    × (((x : A) × (answer ≡ Ready (Some x)) × asks is_registered group answer group_left cx left)
+    ⊎ (((task : Context)
+    × asks is_registered group Pending group_left cx task
+    × AsksEach asks later true answer task left)
+    ⊎ ((task : Context)
+    × asks is_registered group (Ready None) group_left cx task
+    × AsksEach asks later is_registered answer task left)))
+
+-- a poll of all groups polls each group at most once, in turn, as the group was before the poll
+abbrev pub AsksEachOnce : {X A : Type 0} → (Bool → X → Poll (Option A) → X → Context → Context → Type 0) → Type 0
+AsksEachOnce {X} {A} asks = (old : Groups X) (answer : Poll (Option A)) (new : Groups X) (cx left : Context)
+    → AsksInTurn asks (length old.listed) false old answer new cx left
+    → AsksEach asks (in_turn old) false answer cx left

@@ -44,7 +44,8 @@ module _
         × (new ≡ with_empty_slot before i))
 
     -- The last round, by the result of the poll. An item: its stream stays as the poll left it, and its slot is marked.
-    -- Pending: no stream returned an item or `None`. `None`: no stream is held, and neither the merge nor the task changes.
+    -- Pending: no polled stream returned an item or `None`. `None`: no stream is held, and neither the merge nor the
+    -- task changes.
     abbrev pub LastRound : Bounded St S → Poll (Option A) → Bounded St S → Context → Context → Type 0
     LastRound old (Ready (Some x)) new cx left = (0 < held_in old)
         × ((i : ℕ) × (before : Bounded St S)

@@ -1,10 +1,11 @@
 //! How a poll of groups polls one of them.
 //!
 //! A growing set and a growing merge differ in that alone.
-ghost use Rattle.std.specs.Prelude.{IsTrue};
+ghost use Rattle.std.specs.Prelude.{◌≡◌, ◌⊎◌, IsTrue};
 ghost use Rattle.futures.specs.Poll.{OnPending};
 ghost use Rattle.futures.specs.Task.{Covers, Keeps};
 ghost use Rattle.futures_buffered_unordered.specs.Held.{AllHeld};
+ghost use Rattle.futures_buffered_unordered.specs.FuturesUnorderedBounded.{IsWoken};
 ghost use Rattle.futures_buffered_unordered.specs.PollsBounded.{PollsBounded, unless_registered};
 ghost use Rattle.futures_buffered_unordered.specs.FuturesUnorderedInvariant.{KeepsGroup};
 
@@ -35,7 +36,7 @@ pub trait AskGroup<F: Drop, S: NewSource, K> {
         → Context → Context → Type 0 };
 
     /// Polls a group once. If the group holds a value, registers the task, unless the task is already registered with a
-    /// group next to it.
+    /// group next to it. In that case leaves the task, or wakes it.
     fn ask(
         &self,
         group: &mut BoundedSet<F, S, K>,
@@ -48,7 +49,8 @@ pub trait AskGroup<F: Drop, S: NewSource, K> {
         ensures pollable { AllHeld can_poll group.new.slots }
         ensures polls { asks is_registered group.old result group.new cx.old cx.new }
         ensures covered { OnPending result (Covers cx.new (S.needs group.new.source)) }
-        ensures kept { Keeps cx.old cx.new };
+        ensures kept { Keeps cx.old cx.new }
+        ensures leaves { IsTrue is_registered → (cx.new ≡ cx.old) ⊎ IsWoken cx.new };
 }
 
 // Polls a group by a rule for one held value.

@@ -15,7 +15,7 @@ ghost use Rattle.futures_buffered_core.specs.Made.{MakesGroup, MakesSlots};
 ghost use Rattle.futures_buffered_core.specs.ReadyShared.{IsNewShared};
 ghost use Rattle.futures_buffered_core.specs.ReadySource.{WaitsAlike};
 ghost use Rattle.futures_buffered_unordered.specs.FuturesUnorderedBounded.{IsNewSet};
-ghost use Rattle.futures_buffered_unordered.specs.Groups.{AsksOne, next_place};
+ghost use Rattle.futures_buffered_unordered.specs.Groups.{AsksEachOnce, AsksOne, next_place};
 ghost use Rattle.futures_buffered_unordered.specs.FuturesUnordered.{EachHeld, EachCovered, Growing};
 ghost use Rattle.futures_buffered_unordered.specs.FuturesUnordered.{GrowingPushes};
 ghost use Rattle.futures_buffered_unordered.specs.FuturesUnordered.{IsAtBound, IsNewGrowing};
@@ -481,3 +481,10 @@ impl<F: Drop> FuturesUnordered<F, SharedReady> {
         Ok(set)
     }
 }
+
+/// A poll of groups polls each group at most once, in turn from the next place, as the group was before the poll.
+///
+/// This is a law of the relation in the contract of `poll_groups`. Its body is empty.
+pub fn polls_ask_each_group_once<F: Drop, S: NewSource, K, R: AskGroup<F, S, K>>()
+    ensures { AsksEachOnce R.asks }
+{}

@@ -1,6 +1,7 @@
 use Rattle.std.proofs.Common.{◌≡◌, true, false, rules}
 use Rattle.futures_buffered_unordered.specs.PollsBounded.{unless_registered}
 use Rattle.futures_buffered_unordered.proofs.FuturesUnorderedStreamLemmas.{keeps_polled, unless_waits}
+use Rattle.futures_buffered_unordered.proofs.PollsBoundedLemmas.{poll_leaves}
 use Rattle.futures_buffered_unordered.proofs.ask_group.ByRuleAskGroupOfFutures.ask.Goals as goal
 
 pub returns-then-is_registered-clause-keeps : goal.returns-then-is_registered-clause-keeps
@@ -23,3 +24,6 @@ pub returns-else-is_registered-clause-polls : goal.returns-else-is_registered-cl
 returns-else-is_registered-clause-polls g c =
     let new_one : c.args.is_registered ≡ false = search rules in
     rw new_one c.poll_with.ensures
+
+pub returns-then-is_registered-clause-leaves : goal.returns-then-is_registered-clause-leaves
+returns-then-is_registered-clause-leaves g c _ = poll_leaves g.R.PollOne g.S.ReadySource _ _ _ _ _ c.poll_registered.ensures

@@ -1,6 +1,8 @@
+use Rattle.std.proofs.Common.{◌≡◌, true, rules}
 use Rattle.futures_buffered_unordered.specs.PollsBounded.{unless_registered}
 use Rattle.futures_buffered_unordered.proofs.FuturesUnorderedStreamLemmas.{unless_waits}
 use Rattle.futures_buffered_unordered.proofs.MergeUnboundedLemmas.{alike_merged}
+use Rattle.futures_buffered_unordered.proofs.MergingLemmas.{merged_leaves}
 use Rattle.futures_buffered_unordered.proofs.merge_unbounded.AsMergeAskGroupOfStreams.ask.Goals as goal
 
 pub returns-clause-keeps : goal.returns-clause-keeps
@@ -24,3 +26,8 @@ returns-clause-covered g c = c.poll_streams.ensures.covered
 
 pub returns-clause-kept : goal.returns-clause-kept
 returns-clause-kept g c = c.poll_streams.ensures.kept
+
+pub returns-clause-leaves : goal.returns-clause-leaves
+returns-clause-leaves g c registered =
+    let already : c.args.is_registered ≡ true = search rules in
+    merged_leaves g.St.SlotStream g.S.ReadySource _ _ _ _ _ (rw already at c.poll_streams.ensures)
