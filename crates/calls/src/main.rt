@@ -2,8 +2,8 @@
 //! that is wanted.
 //!
 //! The words of the command line name the files. Each reply that differs is printed, with file, line and test, and
-//! behind them a line of counts for each file. The status is 1 where a reply differs, else 3 where a request for memory
-//! that a call made was refused, else 0; and 4 where a file could not be gone through.
+//! after them a line of counts for each file. The status is 1 if a reply differs, otherwise 3 if a request for memory
+//! that a call made was refused, otherwise 0; and 4 if a file could not be gone through.
 #![tactic(auto)]
 
 use calls_lines::lines::run_lines;

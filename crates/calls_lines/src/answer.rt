@@ -128,7 +128,7 @@ pub fn of_try_end(polled: Poll<Result<(), u64>>) -> Answer {
     }
 }
 
-/// The reply of an object of so many slots, which refuses where it is full.
+/// The reply of an object of so many slots, which refuses if it is full.
 pub fn of_push<T: Drop>(pushed: Result<(), T>) -> Reply {
     match pushed {
         Ok(()) => Reply::Ok,
@@ -136,7 +136,7 @@ pub fn of_push<T: Drop>(pushed: Result<(), T>) -> Reply {
     }
 }
 
-/// The reply of an object that grows, which refuses where there is no memory.
+/// The reply of an object that grows, which refuses if there is no memory.
 pub fn of_growth<T: Drop>(pushed: Result<(), T>) -> Reply {
     match pushed {
         Ok(()) => Reply::Ok,
@@ -144,8 +144,8 @@ pub fn of_growth<T: Drop>(pushed: Result<(), T>) -> Reply {
     }
 }
 
-/// The reply of an object of so many slots whose list of entries grows. It refuses where it is full, and where there is
-/// no memory for the list.
+/// The reply of an object of so many slots whose list of entries grows. It refuses if it is full, and if there is no
+/// memory for the list.
 pub fn of_listed<T: Drop>(pushed: Result<(), T>, is_full: bool) -> Reply {
     match of_push(pushed) {
         Reply::Full if !is_full => Reply::Refused,

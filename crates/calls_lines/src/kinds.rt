@@ -84,7 +84,7 @@ fn run_adaptors_in_flight(
 }
 
 /// Begins an object with the numbers of the first line, and makes the calls of its lines. How many lines that took, 0
-/// where the numbers name no such object.
+/// if the numbers name no such object.
 pub fn run_kind(
     session: &mut Session,
     kind: Kind,

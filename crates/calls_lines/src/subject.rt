@@ -29,7 +29,7 @@ pub trait Subject: Drop {
     fn poll(&mut self, cx: &mut Context<'_>, outputs: &mut Vec<u64>) -> Answer
         requires { can_poll };
 
-    /// Any other call: `Nothing` where the type does not have it. What `Debug` prints goes to `text`.
+    /// Any other call: `Nothing` if the type does not have it. What `Debug` prints goes to `text`.
     fn call(&mut self, call: Call<'_>, world: &SharedWorld, text: &mut String) -> Reply;
 }
 

@@ -8,14 +8,14 @@ use std::alloc::Global;
 // were not. Where no such library is there, each is refused.
 const QUESTION: usize = 70_368_744_177_664;
 
-/// Has what calls ask for counted, where the program is run for that.
+/// Has what calls ask for counted, if the program is run for that.
 #[derive(Clone, Copy)]
 pub struct Counter {
     alloc: Global,
     is_on: bool,
-    /// How many bytes each call of the line may ask for, where the line says so.
+    /// How many bytes each call of the line may ask for, if the line says so.
     pub within: Option<usize>,
-    /// How many a poll may ask for, where its line does not say.
+    /// How many a poll may ask for, if its line does not say.
     pub of_polls: Option<usize>,
     // How many the call may ask for that was begun last.
     most: Option<usize>,

@@ -18,7 +18,7 @@ pub enum Line<'a> {
 pub struct Wanted<'a> {
     pub reply: &'a str,
     pub must_differ: bool,
-    /// How many bytes the call may ask for at most, where the line says so.
+    /// How many bytes the call may ask for at most, if the line says so.
     pub within: Option<usize>,
 }
 

@@ -5,7 +5,7 @@ use std::rc::Rc;
 // So many of what one call does have room from the start.
 const ROOM: usize = 1024;
 
-/// An empty list of what a call does, which asks for no more memory where that is no more than usual.
+/// An empty list of what a call does, which asks for no more memory if that is no more than usual.
 pub fn list<T: Drop>(alloc: Global) -> Result<Vec<T>, AllocError> {
     match Vec::with_capacity(alloc, ROOM) {
         Ok(list) => Ok(list),

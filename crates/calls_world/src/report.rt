@@ -76,7 +76,7 @@ impl Report {
         self.refused = self.refused.saturating_add(1);
     }
 
-    /// The exit status of the file: 1 where a reply differs, else 3 where memory was refused to a call, else 0.
+    /// The exit status of the file: 1 if a reply differs, otherwise 3 if memory was refused to a call, otherwise 0.
     pub fn status(&self) -> u8 {
         if self.differences > 0 {
             1

@@ -22,7 +22,7 @@ pub enum Action {
 pub enum Step {
     /// Wakes the waker that this value kept last. The next step belongs to the same poll.
     Kick(usize),
-    /// Ends the poll, after it woke its own waker where `wakes` says so.
+    /// Ends the poll, after it woke its own waker if `wakes` says so.
     Act { wakes: bool, action: Action },
 }
 

@@ -40,7 +40,7 @@ impl TaskScript {
         };
     }
 
-    /// One poll: what the script does, where that is not to be pending.
+    /// One poll: what the script does, if that is not to be pending.
     pub fn poll(&mut self, cx: &mut Context<'_>) -> Poll<Action>
         ensures armed { OnPending result (IsArmed cx.new) }
         ensures kept { Keeps cx.old cx.new }

@@ -4,7 +4,7 @@ use std::alloc::Global;
 /// The most digits of a number below 2^64.
 const MOST_DIGITS: usize = 20;
 
-/// A text that grows. A request for memory that is refused is made once more; where that is refused too, the text says
+/// A text that grows. A request for memory that is refused is made once more; if that is refused too, the text says
 /// that it has failed, and is shorter.
 #[derive(Drop)]
 pub struct Text {

@@ -13,7 +13,7 @@ pub trait Scripted: Drop {
     fn new(script: Script) -> Self;
 }
 
-/// The value with this number, or none where the world has no room for one more handle.
+/// The value with this number, or none if the world has no room for one more handle.
 pub fn new_value<T: Scripted>(world: &SharedWorld, id: usize) -> Option<T> {
     match Script::new(world, id) {
         Ok(script) => Some(T::new(script)),
@@ -41,7 +41,7 @@ pub fn new_values<T: Scripted>(world: &SharedWorld, ids: &[usize]) -> Vec<T> {
     values
 }
 
-/// What a future gives. Its drop is seen where it has a handle on the world.
+/// What a future gives. Its drop is seen if it has a handle on the world.
 pub struct Output {
     number: u64,
     world: Option<SharedWorld>,

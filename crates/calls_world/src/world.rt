@@ -183,7 +183,7 @@ impl World {
         self.need(had_memory);
     }
 
-    /// Where this value keeps the waker of the task that polls it. `None` where memory lacks.
+    /// Where this value keeps the waker of the task that polls it. `None` if the allocation fails.
     pub fn task_waker(&mut self, id: usize) -> Option<&mut TaskWaker> {
         if !matches!(self.task_wakers.get(id), Some(Some(_)))
             && !put(&mut self.task_wakers, id, TaskWaker { waker: None })

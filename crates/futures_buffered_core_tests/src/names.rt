@@ -14,7 +14,7 @@ use std::process::Abort;
 pub trait Names {
     fn slots(&self) -> usize;
 
-    /// None where there is no such slot.
+    /// None if there is no such slot.
     fn mark_slot(&mut self, slot: usize) -> Option<Woke>;
 
     fn take_slot(&mut self) -> Taken;

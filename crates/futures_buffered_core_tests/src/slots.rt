@@ -1,4 +1,4 @@
-//! Calls on one slot of a source, where it has this slot.
+//! Calls on one slot of a source, if it has this slot.
 use futures_buffered_core::ready_core::Woke;
 use futures_buffered_core::ready_shared::{OuterWaker, SharedReady, SharedWaker};
 use futures_buffered_core::ready_source::{ReadySource, SlotWaker};

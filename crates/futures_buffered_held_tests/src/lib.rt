@@ -5,7 +5,7 @@
 //! - `oneshots`: what a one-shot answers, whom it wakes, and what is dropped.
 //! - `oneshot_threads`, `oneshot_rounds`: one-shots that are sent from threads, and a send and a poll that meet in one
 //!   round after another.
-//! - `spsc`, `spsc_threads`: channels from one sender, also where that is on a thread.
+//! - `spsc`, `spsc_threads`: channels from one sender, also if that is on a thread.
 //! - `steps`: tables of what a test does with two ends, and what that returns.
 //! - `rounds`, `same`: rounds in which a thread acts, what a source names, and assertions as calls.
 #![tactic(auto)]

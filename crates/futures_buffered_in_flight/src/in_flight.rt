@@ -45,14 +45,14 @@ pub struct Came<A, T = ()> {
 pub trait Kind {
     ghost GROWS: { Bool };
 
-    /// Whether a push makes a slot if there is none.
+    /// Whether a push makes a slot if there is no room.
     const GROWS: bool;
 }
 
 /// The kind with a fixed number of slots.
 pub struct Bounded;
 
-/// The kind in which a push makes a slot if there is none.
+/// The kind in which a push makes a slot if there is no room.
 pub struct Growing;
 
 impl Kind for Bounded {

@@ -256,11 +256,12 @@ impl<F: Future<Output = A>, A: Drop> FuturesOrdered<F, A> {
         Self::with_slots(alloc, n.max(1))
     }
 
-    /// Adds the future as `try_push_back` of a bounded queue does, and makes a slot and an entry for it.
+    /// Adds the future after all others, so that a later poll polls it. If each slot has a future in progress, makes a
+    /// slot first.
     ///
     /// Returns the future, and changes nothing, if the allocation for a slot or an entry fails, at `MAX_LEN` entries,
-    /// and after 2^64 - 1 pushes. Many pushes together take time and memory in proportion to their number, unless an
-    /// allocation fails.
+    /// and after 2^64 - 1 pushes. If the allocation for the future fails, the future waits, and a later poll tries
+    /// again. Many pushes together take time and memory in proportion to their number, unless an allocation fails.
     pub fn push_back(&mut self, future: F) -> Result<(), F>
         requires held { CanPollOrdered F.Future self.old }
         requires fit { F.can_poll future }

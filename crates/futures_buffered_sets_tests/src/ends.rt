@@ -8,7 +8,7 @@ use std::sync::Wait;
 use std::test::Fail;
 use std::thread::{self, Threads};
 
-/// What the items of a stream come to, where there is memory for them.
+/// What the items of a stream come to, if there is memory for them.
 pub fn collected<R, S: Stream>(rt: &R, stream: S) -> io::Result<Result<Vec<S::Item>, AllocError>>
 where
     R: Wait + RandomSource + AllocGlobal,

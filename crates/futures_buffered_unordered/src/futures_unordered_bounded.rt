@@ -148,7 +148,7 @@ impl<F: Drop, S: NewSource, K> BoundedSet<F, S, K> {
         Self::over_limit(env, alloc, iter, POLL_LIMIT)
     }
 
-    /// As `over`, where one poll takes at most `limit` names.
+    /// As `over`, but one poll takes at most `limit` ready slots.
     pub fn over_limit<I: IntoIterator<Item = F>>(
         env: &S::Env,
         alloc: Global,

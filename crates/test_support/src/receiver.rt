@@ -18,7 +18,7 @@ pub struct Sender<T, R> {
     cell: Arc<Mutex<Cell<T>>>,
 }
 
-/// Pending until a value is sent, then ready with it. It is not woken where its waker can't be kept.
+/// Pending until a value is sent, then ready with it. It is not woken if its waker can't be kept.
 #[derive(Drop)]
 pub struct Receiver<T, R> {
     rt: R,

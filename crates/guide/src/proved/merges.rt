@@ -4,7 +4,7 @@ ghost use Rattle.futures_buffered.specs.FuturesUnorderedBounded.{held_in};
 
 use futures_buffered::{MergeBounded, SharedReady, SharedWaker, SlotStream};
 
-/// Adds a stream where a slot is free, and says whether it did. A stream that finds no slot is dropped.
+/// Adds a stream if a slot is free, and says whether it did. A stream that finds no slot is dropped.
 pub fn add_if_free<St: SlotStream<SharedWaker>>(
     merge: &mut MergeBounded<St, SharedReady>,
     stream: St,

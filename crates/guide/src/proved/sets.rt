@@ -10,7 +10,7 @@ use std::alloc::AllocGlobal;
 use std::random::RandomSource;
 use std::sync::Wait;
 
-/// Adds a future for each number, where there is room for all of them.
+/// Adds a future for each number, if there is room for all of them.
 pub fn push_each(set: &mut FuturesUnorderedBounded<Doubling, SharedReady>, numbers: &[u32])
     requires { held_in set.old + length numbers.now ≤ slots_in set.old }
     ensures { held_in set.new ≡ held_in set.old + length numbers.now }
