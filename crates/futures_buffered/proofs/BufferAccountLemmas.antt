@@ -1,16 +1,16 @@
 -- What many calls account for, over any queue of which one knows what a push, an answer handed back and a poll account for.
-use Rattle.std.proofs.Common.{◌≡◌, ℕ, List, [], ◌∷◌, ◌++◌, Option, Some, None, refl, sym, subst, inl, inr, append-nil, append_assoc}
+use Rattle.std.proofs.Common.{◌≡◌, ℕ, List, [], ◌∷◌, ◌++◌, Option, Some, None, Bool, true, false, is_some, refl, sym, subst, inl, inr, append-nil, append_assoc}
 use Rattle.std.specs.Option.{option_to_list}
 use Rattle.std.specs.List.{FoldsTo}
 use Rattle.futures.specs.declared.task.Poll.{Poll}
 use Rattle.futures.specs.declared.task.Poll.TheVariants.{Ready, Pending}
 use Rattle.futures_buffered.specs.Buffer.{Buffering, CallEnds, CallsInTurn, DrawsItem, DrawsLast, DrawsNone, all_drawn, all_outputs, answer_from, output_given}
 
-same_output : {St A : Type 0} (stream : Option St) (queue_answer : Poll (Option A)) → output_given (answer_from stream queue_answer) ≡ output_given queue_answer
-same_output stream (Ready (Some x)) = refl
-same_output None (Ready None) = refl
-same_output (Some s) (Ready None) = refl
-same_output stream Pending = refl
+same_output : {A : Type 0} (goes_on : Bool) (queue_answer : Poll (Option A)) → output_given (answer_from goes_on queue_answer) ≡ output_given queue_answer
+same_output goes_on (Ready (Some x)) = refl
+same_output true (Ready None) = refl
+same_output false (Ready None) = refl
+same_output goes_on Pending = refl
 
 outputs_cons : {X A : Type 0} (items : List X) (answer : Poll (Option A)) (calls : List (List X × Poll (Option A))) → all_outputs ((items, answer) ∷ calls) ≡ option_to_list (output_given answer) ++ all_outputs calls
 outputs_cons items (Ready None) calls = refl
@@ -34,7 +34,7 @@ module _ {St X A Q : Type 0} (next : St → Poll (Option X) → St → Type 0) (
 
   ended : (drawn : List X) (given : List A) (full filled new : Buffering St Q) (back : Option A) (answer : Poll (Option A)) → So drawn given full.queue → DrawsLast next count n pushes full back filled → CallEnds polls (Unit {0}) back filled answer new → So drawn (given ++ option_to_list (output_given answer)) new.queue
   ended drawn given full filled new None answer so last ends =
-      rw (ends.gives, same_output filled.stream ends.queue_answer) (gave drawn given filled.queue new.queue ends.queue_answer (drew_none drawn given full filled so last) ends.polls_queue)
+      rw (ends.gives, same_output (is_some filled.stream) ends.queue_answer) (gave drawn given filled.queue new.queue ends.queue_answer (drew_none drawn given full filled so last) ends.polls_queue)
   ended drawn given full filled new (Some x) answer so last ends = rw (ends.0, ends.1) (handed drawn given full.queue filled.queue last.0 x so last.1.pushed)
 
   pub many_calls : (calls : List (List X × Poll (Option A))) (drawn : List X) (given : List A) (old new : Buffering St Q) → So drawn given old.queue → CallsInTurn next count n pushes polls old calls new → So (drawn ++ all_drawn calls) (given ++ all_outputs calls) new.queue

@@ -10,7 +10,7 @@ use Rattle.futures.specs.Buffered.{GathersWith}
 use Rattle.futures.specs.Poll.{IfReady, OnPending}
 use Rattle.futures_buffered_unordered.specs.StreamAnswers.{StreamAnswers, stream_of}
 use Rattle.futures_buffered.specs.FutureQueue.{MayCome, AddsOutput, PollsFutureQueue, PushAddsOutput, PushLeavesQueue}
-use Rattle.futures_buffered.specs.Buffer.{Buffering, FutureQueueOf, StreamOf, Ahead, AsksStream, DrawsAll, DrawsBuffer, DrawsTask, HasNoTurn, BufferCall, PollsBuffer, PollsStream, CanDraw, WaitsAt, OneComes, BufferGives, buffer_of, answer_from}
+use Rattle.futures_buffered.specs.Buffer.{Buffering, FutureQueueOf, StreamOf, Ahead, AsksStream, DrawingLeavesTask, DrawsAll, DrawsBuffer, DrawsTask, FillsBuffer, HasNoTurn, LeavesBuffer, BufferCall, PollsBuffer, PollsStream, CanDraw, WaitsAt, OneComes, BufferGives, buffer_of, answer_from}
 
 None-Some : {X F : Type 0} {f : F} → None ≡ Some f → X
 None-Some e = cc
@@ -256,18 +256,6 @@ module _ {St X Q : Type 0} (can_next : St → Type 0) (yields : St → Runs X) (
       → CanDraw can_next yields is_fit can_poll (record { stream = Some s2; queue = q })
   pending_can s s2 q can same next = record { stream = next; to_come = λ xs x h. can.to_come xs x (same xs (Some x) h); held = can.held }
 
-  pub polled_can : (b : Buffering St Q) (stream : Option St) (old new : Q) → b ≡ record { stream = stream; queue = old } → can_poll new → CanDraw can_next yields is_fit can_poll b
-      → CanDraw can_next yields is_fit can_poll (record { stream = stream; queue = new })
-  polled_can b stream old new is next can =
-      let same = subst (λ (c : Buffering St Q). CanDraw can_next yields is_fit can_poll c) is can in
-      record { stream = same.stream; to_come = same.to_come; held = next }
-
-  pub same_can : (b : Buffering St Q) (stream : Option St) (old new : Q) → b ≡ record { stream = stream; queue = old } → new ≡ old → CanDraw can_next yields is_fit can_poll b
-      → CanDraw can_next yields is_fit can_poll (record { stream = stream; queue = new })
-  same_can b stream old new is same can =
-      subst (λ (q : Q). CanDraw can_next yields is_fit can_poll (record { stream = stream; queue = q })) (sym same)
-      (subst (λ (c : Buffering St Q). CanDraw can_next yields is_fit can_poll c) is can)
-
 -- what an item leaves that was drawn, by whether its push handed back an answer
 module _ {St X A Q : Type 0} (can_next : St → Type 0) (yields : St → Runs X) (item_gives : X → A → Type 0) (is_fit : X → Type 0) (count room : Q → ℕ) (comes : Q → Runs A) (can_poll : Q → Type 0) (in_order : Bool) (b : Buffering St Q) (s s2 : St) (item : X) (old new : Q) (is : b ≡ record { stream = Some s; queue = old })
     (below : count old < room old) (can : CanDraw can_next yields is_fit can_poll b) (came : yields s [] (Some item)) (rest : After (yields s) item (yields s2)) (next : can_next s2) where
@@ -305,7 +293,7 @@ after_draws count room can_draw yields old now new (Some x) same less last =
 
 -- one call, of its draws and its poll of the queue
 pub call_of : {St F A Q : Type 0} (next : St → Poll (Option F) → St → Type 0) (count : Q → ℕ) (n : ℕ) (pushes : Q → F → Option A → Q → Type 0) (polls : Q → Poll (Option A) → Q → Type 0) (task_stays : Type 0) (old filled : Buffering St Q) (stream : Option St) (queue left : Q) (queue_answer answer : Poll (Option A))
-    → filled ≡ record { stream = stream; queue = queue } → (drawn : List F) × DrawsAll next count n pushes old drawn None filled → polls queue queue_answer left → answer ≡ answer_from stream queue_answer
+    → filled ≡ record { stream = stream; queue = queue } → (drawn : List F) × DrawsAll next count n pushes old drawn None filled → polls queue queue_answer left → answer ≡ answer_from (is_some stream) queue_answer
     → (items : List F) × BufferCall next count n pushes polls task_stays old items answer (record { stream = stream; queue = left })
 call_of next count n pushes polls task_stays old filled stream queue left queue_answer answer is draws polled gives = (
   draws.0,
@@ -323,7 +311,7 @@ call_of next count n pushes polls task_stays old filled stream queue left queue_
 )
 
 -- where the queue gave the end and the stream has ended, nothing is held
-ended_by : {St A Q : Type 0} (count : Q → ℕ) (stream : Option St) (queue left : Q) (queue_answer : Poll (Option A)) → IfReady queue_answer (λ o. IfNone o ((count queue ≡ 0) × (left ≡ queue))) → IfReady (answer_from stream queue_answer) (λ o. IfNone o ((stream ≡ None) × (count left ≡ 0)))
+ended_by : {St A Q : Type 0} (count : Q → ℕ) (stream : Option St) (queue left : Q) (queue_answer : Poll (Option A)) → IfReady queue_answer (λ o. IfNone o ((count queue ≡ 0) × (left ≡ queue))) → IfReady (answer_from (is_some stream) queue_answer) (λ o. IfNone o ((stream ≡ None) × (count left ≡ 0)))
 ended_by count stream queue left (Ready (Some x)) empty = tt
 ended_by count None queue left (Ready None) empty = (refl, rw empty.1 empty.0)
 ended_by count (Some s) queue left (Ready None) empty = tt
@@ -333,43 +321,11 @@ some-ne-none-of : {St : Type 0} (s : St) → Some s ≡ None → ⊥
 some-ne-none-of s e = cc
 
 -- where it was pending, and the stream has ended, something is held
-waits_by : {St A : Type 0} (stream : Option St) (queue_answer : Poll (Option A)) (held : ℕ) → OnPending queue_answer (0 < held) → OnPending (answer_from stream queue_answer) (stream ≡ None → 0 < held)
+waits_by : {St A : Type 0} (stream : Option St) (queue_answer : Poll (Option A)) (held : ℕ) → OnPending queue_answer (0 < held) → OnPending (answer_from (is_some stream) queue_answer) (stream ≡ None → 0 < held)
 waits_by stream (Ready (Some x)) held holds = tt
 waits_by None (Ready None) held holds = tt
 waits_by (Some s) (Ready None) held holds = λ e. absurd (some-ne-none-of s e)
 waits_by stream Pending held holds = λ _. holds
-
--- a call that ended with a poll of the queue
-pub poll_of : {St X A Q : Type 0} (source : StreamOf St X) (by : FutureQueueOf Q X A) (old filled : Buffering St Q) (stream : Option St) (queue left : Q) (queue_answer answer : Poll (Option A)) (cx task_then after : Context)
-    → filled ≡ record { stream = stream; queue = queue } → (items : List X) × DrawsAll (PollsStream source.yields) by.count (by.room old.queue) by.pushes old items None filled
-    → PollsFutureQueue by.polls by.count by.room (stream_of by.can_poll by.needs by.yields) queue queue_answer left task_then after → answer ≡ answer_from stream queue_answer → Keeps cx task_then → (HasNoTurn (PollsStream source.yields) by.count (by.room old.queue) old → task_then ≡ cx) → by.room filled.queue ≡ by.room old.queue
-    → StreamAnswers (buffer_of source by) old answer (record { stream = stream; queue = left }) cx after
-    → PollsBuffer source by old answer (record { stream = stream; queue = left }) cx after
-poll_of source by old filled stream queue left queue_answer answer cx task_then after is draws polled gives kept not_polled same_room as_stream =
-    record {
-      task_then = task_then;
-      draws_keep = kept;
-      not_polled = not_polled;
-      gave = call_of (PollsStream source.yields) by.count (by.room old.queue) by.pushes (λ before reply now. by.polls before reply now task_then after) (after ≡ task_then) old filled stream queue left queue_answer answer is draws polled.polled gives;
-      ended = rw gives (ended_by by.count stream queue left queue_answer polled.empty);
-      waits = rw gives (waits_by stream queue_answer (by.count left) polled.holds);
-      same_room = polled.same_room ∙ rw is at same_room;
-      bound = polled.bound;
-      as_stream = as_stream;
-    }
-
--- the end of the queue, where the stream goes on and where it has ended
-pub some_pends : {St A : Type 0} (stream : Option St) → is_some stream ≡ true → ◌≡◌ {A = Poll (Option A)} Pending (answer_from stream (Ready None))
-some_pends None e = cc
-some_pends (Some s) e = refl
-
-pub none_ends : {St A : Type 0} (stream : Option St) → is_some stream ≡ false → ◌≡◌ {A = Poll (Option A)} (Ready None) (answer_from stream (Ready None))
-none_ends None e = refl
-none_ends (Some s) e = cc
-
-pub none_is : {St : Type 0} (stream : Option St) → is_some stream ≡ false → stream ≡ None
-none_is None e = refl
-none_is (Some s) e = cc
 
 module _ {St Q : Type 0} (stream_needs : St → ℕ → Type 0) (queue_needs : Q → ℕ → Type 0) (count room : Q → ℕ) (b : Buffering St Q) (stream : Option St) (old new : Q) (before after : Context) (is : b ≡ record { stream = stream; queue = old })
     (covered : count b.queue < room b.queue → IfSome b.stream (λ s. Covers before (stream_needs s))) (kept : Keeps before after) where
@@ -402,6 +358,70 @@ module _ {St Q : Type 0} (stream_needs : St → ℕ → Type 0) (queue_needs : Q
       by_place : (place : ℕ) → WaitsAt stream_needs queue_needs count room (record { stream = stream; queue = new }) place → Hears after place
       by_place place (inl waits) = let more = waits.0 in let e = ap count same in absurd (omega (arith, more, none, e))
       by_place place (inr waits) = by_stream place stream (drawn below) waits.1
+
+-- what a call is as a stream, after its draws, by what its poll of the queue returned
+answers_of : {St X A Q : Type 0} (source : StreamOf St X) (by : FutureQueueOf Q X A) (old : Buffering St Q) (stream : Option St) (queue left : Q) (queue_answer : Poll (Option A)) (cx before after : Context)
+    → Within ((buffer_of source by).yields old) ((buffer_of source by).yields (record { stream = stream; queue = queue })) → (buffer_of source by).can_poll (record { stream = stream; queue = queue })
+    → (by.count queue < by.room queue → IfSome stream (λ s. Covers before (source.needs s))) → Keeps cx before → PollsFutureQueue by.polls by.count by.room (stream_of by.can_poll by.needs by.yields) queue queue_answer left before after
+    → StreamAnswers (buffer_of source by) old (answer_from (is_some stream) queue_answer) (record { stream = stream; queue = left }) cx after
+answers_of source by old stream queue left (Ready (Some x)) cx before after within can covered kept polled =
+    record {
+      value = within [] (Some x) (queue_value source.yields by.gives by.count by.yields by.in_order stream queue x polled.as_stream.value);
+      rest = λ xs last h. within (x ∷ xs) last (queue_after source.yields by.gives by.count by.yields by.in_order stream queue left x polled.as_stream.value polled.as_stream.rest polled.fewer xs last h);
+      same = tt;
+      goes = record { stream = can.stream; to_come = can.to_come; held = polled.as_stream.goes };
+      again = tt;
+      registered = tt;
+      kept = λ fact h. polled.as_stream.kept fact (kept fact h);
+    }
+answers_of source by old None queue left (Ready None) cx before after within can covered kept polled =
+    record {
+      value = within [] None (queue_ends source.yields by.gives by.count by.yields by.in_order queue polled.as_stream.value polled.empty.0);
+      rest = tt;
+      same = tt;
+      goes = tt;
+      again = tt;
+      registered = tt;
+      kept = λ fact h. polled.as_stream.kept fact (kept fact h);
+    }
+answers_of source by old (Some s) queue left (Ready None) cx before after within can covered kept polled =
+    record {
+      value = tt;
+      rest = tt;
+      same = λ xs last h. within xs last (rw (← polled.empty.1) h);
+      goes = tt;
+      again = record { stream = can.stream; to_come = can.to_come; held = rw polled.empty.1 can.held };
+      registered = empty_covers source.needs by.needs by.count by.room _ (Some s) queue left before after refl covered polled.as_stream.kept polled.empty.0 polled.empty.1 polled.some refl;
+      kept = λ fact h. polled.as_stream.kept fact (kept fact h);
+    }
+answers_of source by old stream queue left Pending cx before after within can covered kept polled =
+    record {
+      value = tt;
+      rest = tt;
+      same = λ xs last h. within xs last (queue_within source.yields by.gives by.count by.yields by.in_order stream queue left polled.as_stream.same polled.same_count xs last h);
+      goes = tt;
+      again = record { stream = can.stream; to_come = can.to_come; held = polled.as_stream.again };
+      registered = pending_covers source.needs by.needs by.count by.room _ stream queue left before after refl covered polled.as_stream.kept polled.same_count polled.same_room polled.as_stream.registered;
+      kept = λ fact h. polled.as_stream.kept fact (kept fact h);
+    }
+
+-- a call that ended with a poll of the queue
+pub poll_of : {St X A Q : Type 0} (source : StreamOf St X) (by : FutureQueueOf Q X A) (old filled : Buffering St Q) (stream : Option St) (queue left : Q) (queue_answer answer : Poll (Option A)) (cx task_then after : Context)
+    → filled ≡ record { stream = stream; queue = queue } → FillsBuffer source by old None filled → LeavesBuffer source by old None filled → DrawingLeavesTask source by (◌≡◌ {A = Option A} None None) old filled cx task_then
+    → PollsFutureQueue by.polls by.count by.room (stream_of by.can_poll by.needs by.yields) queue queue_answer left task_then after → answer ≡ answer_from (is_some stream) queue_answer
+    → PollsBuffer source by old answer (record { stream = stream; queue = left }) cx after
+poll_of source by old filled stream queue left queue_answer answer cx task_then after is draws leaves task polled gives =
+    record {
+      task_then = task_then;
+      draws_keep = task.kept;
+      not_polled = task.no_turn;
+      gave = call_of (PollsStream source.yields) by.count (by.room old.queue) by.pushes (λ before reply now. by.polls before reply now task_then after) (after ≡ task_then) old filled stream queue left queue_answer answer is draws polled.polled gives;
+      ended = rw gives (ended_by by.count stream queue left queue_answer polled.empty);
+      waits = rw gives (waits_by stream queue_answer (by.count left) polled.holds);
+      same_room = polled.same_room ∙ rw is at leaves.same_room;
+      bound = polled.bound;
+      as_stream = rw gives (answers_of source by old stream queue left queue_answer cx task_then after (rw is at leaves.within) (rw is at leaves.again) (rw is at (task.covered refl)) task.kept polled);
+    }
 
 -- a stream that was polled had its turn
 pub had_turn : {St X Q : Type 0} (next : St → Poll (Option X) → St → Type 0) (count : Q → ℕ) (n : ℕ) (old : Buffering St Q) (s : St) (q : Q) → old ≡ record { stream = Some s; queue = q } → count q < n → HasNoTurn next count n old → ⊥

@@ -2,7 +2,7 @@
 -- is room. Then it polls its queue once, unless a push returned an answer. The queue may be any that has a number of
 -- entries, a push and a poll.
 use Rattle.std.specs.Prelude.{◌≡◌, ℕ, ◌+◌, ◌-◌, ◌<◌, ◌≤◌, ◌^◌, List, [], ◌++◌, Option, Some, None, IfSome, IfNone}
-use Rattle.std.specs.Prelude.{IsSomeAnd, Bool, true, false, ◌⊎◌, cond, min, nat_lt, refl, filter_map, flat_map}
+use Rattle.std.specs.Prelude.{IsSomeAnd, is_some, Bool, true, false, ◌⊎◌, cond, min, nat_lt, refl, filter_map, flat_map}
 use Rattle.std.specs.declared.ops.ControlFlow.{ControlFlow}
 use Rattle.std.specs.declared.ops.ControlFlow.TheVariants.{Continue, Break}
 use Rattle.std.specs.Option.{option_and_then}
@@ -48,13 +48,12 @@ abbrev pub Ahead : {St F : Type 0} → (St → Runs F) → Option St → Runs F
 Ahead yields None = Ends
 Ahead yields (Some stream) = yields stream
 
--- What a call returns, by what the queue returned: an output and `Pending` are returned as they are. If the queue held
--- nothing, the call returns `None` if the stream has ended, otherwise `Pending`.
-abbrev pub answer_from : {St A : Type 0} → Option St → Poll (Option A) → Poll (Option A)
-answer_from stream (Ready (Some x)) = Ready (Some x)
-answer_from None (Ready None) = Ready None
-answer_from (Some _) (Ready None) = Pending
-answer_from stream Pending = Pending
+-- What a call returns, by whether the stream goes on and by what the queue returned: an output and `Pending` are returned
+-- as they are. If the queue held nothing, the call returns `None` if the stream has ended, otherwise `Pending`.
+abbrev pub answer_from : {A : Type 0} → Bool → Poll (Option A) → Poll (Option A)
+answer_from goes_on (Ready (Some x)) = Ready (Some x)
+answer_from goes_on (Ready None) = cond goes_on Pending (Ready None)
+answer_from goes_on Pending = Pending
 
 -- the output that a call returned, if any
 abbrev pub output_given : {A : Type 0} → Poll (Option A) → Option A
@@ -68,7 +67,7 @@ module _ {St A Q : Type 0} (polls : Q → Poll (Option A) → Q → Type 0) wher
     pub queue_answer : Poll (Option A)
     pub polls_queue : polls old.queue queue_answer new.queue
     pub same_stream : new.stream ≡ old.stream
-    pub gives : answer ≡ answer_from old.stream queue_answer
+    pub gives : answer ≡ answer_from (is_some old.stream) queue_answer
 
   -- how a call ends after filling: if a push returned an answer, with that answer, without a poll of the queue, and
   -- `task_stays` holds; otherwise with a poll of the queue

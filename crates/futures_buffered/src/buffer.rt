@@ -4,7 +4,7 @@ ghost use Rattle.std.specs.declared.ops.ControlFlow.TheVariants.{Break};
 ghost use Rattle.futures_buffered_core.specs.Made.{MakesSlots};
 ghost use Rattle.futures_buffered.specs.Buffer.{DrawsOne, FillsBuffer, LeavesBuffer};
 ghost use Rattle.futures_buffered.specs.Buffer.{DrawingLeavesTask, buffer_of};
-ghost use Rattle.futures_buffered.specs.Buffer.{PollsBuffer, IsNewBuffer, handed_back};
+ghost use Rattle.futures_buffered.specs.Buffer.{PollsBuffer, IsNewBuffer, answer_from, handed_back};
 ghost use Rattle.futures_buffered.specs.Buffer.{hint_with, hint_ahead};
 
 use crate::future_queue::{FutureQueue, NewQueue};
@@ -173,6 +173,17 @@ impl<St: Stream, Q: FutureQueue<St::Item>> Buffer<St, Q> {
     }
 }
 
+// Returns the answer of a poll, by whether the stream goes on and by what the queue returned.
+fn after_poll<A>(goes_on: bool, polled: Poll<Option<A>>) -> Poll<Option<A>>
+    ensures { result ≡ answer_from goes_on polled }
+{
+    match polled {
+        Poll::Ready(Some(output)) => Poll::Ready(Some(output)),
+        Poll::Ready(None) if !goes_on => Poll::Ready(None),
+        Poll::Ready(None) | Poll::Pending => Poll::Pending,
+    }
+}
+
 impl<St: Stream, Q: FutureQueue<St::Item>> Stream for Buffer<St, Q> {
     type Item = Q::Output;
 
@@ -197,15 +208,8 @@ impl<St: Stream, Q: FutureQueue<St::Item>> Stream for Buffer<St, Q> {
         if let Some(answer) = self.fill(cx) {
             return Poll::Ready(Some(answer));
         }
-        match self.queue.poll_output(cx) {
-            Poll::Ready(Some(output)) => return Poll::Ready(Some(output)),
-            Poll::Ready(None) => {}
-            Poll::Pending => return Poll::Pending,
-        }
-        if self.stream.is_some() {
-            return Poll::Pending;
-        }
-        Poll::Ready(None)
+        let polled = self.queue.poll_output(cx);
+        after_poll(self.stream.is_some(), polled)
     }
 }
 
