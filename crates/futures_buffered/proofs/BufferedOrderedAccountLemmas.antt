@@ -17,11 +17,9 @@ use Rattle.futures_buffered_unordered.specs.PollsBounded.{itself}
 use Rattle.futures_buffered_unordered.proofs.HeldLemmas.{apart, value_in-with_value, value_inserted, value_inserted_other}
 use Rattle.futures_buffered_unordered.proofs.HeldGivesLemmas.{value_in-with_slot_freed_other}
 use Rattle.futures_buffered_ordered.specs.Numbered.{PollsNumbered, held_with, one_at}
-use Rattle.futures_buffered_ordered.specs.OrderedEntries.{AddsBack, IsUnused, LastStep, OrderedGives, SetYields, runs_with}
+use Rattle.futures_buffered_ordered.specs.OrderedEntries.{AddsBack, Entry, IsUnused, Kept, LastStep, OrderedGives, Running, SetYields, runs_with}
 use Rattle.futures_buffered_ordered.specs.FuturesOrderedBounded.{OrderedBounded, PushesNumber, SetGives}
 use Rattle.futures_buffered_ordered.specs.declared.numbered.Numbered.{Numbered}
-use Rattle.futures_buffered_ordered.specs.declared.ordered_entries.Entry.{Entry}
-use Rattle.futures_buffered_ordered.specs.declared.ordered_entries.Entry.TheVariants.{Running, Kept}
 use Rattle.futures_buffered_ordered.proofs.NumberedLemmas.{count-names, in_slots, none_held, numbers_inserted, numbers_polled}
 use Rattle.futures_buffered_ordered.proofs.OrderedEntriesInvariantLemmas.{runs-set}
 use Rattle.futures_buffered_ordered.proofs.OrderedEntriesLemmas.{unused_none}

@@ -16,12 +16,11 @@ use Rattle.futures_buffered_unordered.specs.Held.{MayGive}
 use Rattle.futures_buffered_unordered.specs.FuturesUnorderedBounded.{held_in}
 use Rattle.futures_buffered_unordered.proofs.HeldLemmas.{AllHeld-push, value_inserted, value_inserted_other}
 use Rattle.futures_buffered_ordered.specs.Numbered.{CanPollFuture, PollsNumbered, held_with}
-use Rattle.futures_buffered_ordered.specs.OrderedEntries.{AddsBack, ComesInOrder, EachHasOne, OrderedGives, starts_running}
+use Rattle.futures_buffered_ordered.specs.OrderedEntries.{AddsBack, ComesInOrder, EachHasOne, Entry, OrderedGives, starts_running}
 use Rattle.futures_buffered_ordered.specs.FuturesOrderedBounded.{EachRunning, OrderedBounded, PollsOrderedBounded, PushesNumber, SetGives, SetMayGive}
 use Rattle.futures_buffered_core.specs.declared.ready_source.ReadySource.{Ghosts as ReadySourceOf}
 use Rattle.futures_buffered_unordered.specs.declared.poll_one.PollOne.{Ghosts as PollOneOf}
 use Rattle.futures_buffered_ordered.specs.declared.numbered.Numbered.{Numbered}
-use Rattle.futures_buffered_ordered.specs.declared.ordered_entries.Entry.{Entry}
 use Rattle.futures_buffered_ordered.proofs.NumberedLemmas.{in_slot, in_slots}
 use Rattle.futures_buffered_ordered.proofs.OrderedEntriesLemmas.{comes_behind, no_more_of, unused_none}
 use Rattle.futures_buffered.specs.FutureQueue.{AddsOutput}

@@ -6,11 +6,9 @@ use Rattle.futures_buffered_core.specs.declared.ready_source.ReadySource.{Ghosts
 use Rattle.futures_buffered_unordered.specs.declared.slot_future.SlotFuture.{Ghosts as SlotFutureOf}
 use Rattle.futures_buffered_unordered.specs.FuturesUnorderedBounded.{held_in}
 use Rattle.futures_buffered_unordered.specs.PollsBounded.{itself}
-use Rattle.futures_buffered_ordered.specs.OrderedEntries.{AddsBack, OrderedGives}
+use Rattle.futures_buffered_ordered.specs.OrderedEntries.{AddsBack, Entry, Kept, OrderedGives, Running}
 use Rattle.futures_buffered_ordered.specs.FuturesOrderedBounded.{OrderedBounded, PushesNumber, SetGives}
 use Rattle.futures_buffered_ordered.specs.declared.numbered.Numbered.{Numbered}
-use Rattle.futures_buffered_ordered.specs.declared.ordered_entries.Entry.{Entry}
-use Rattle.futures_buffered_ordered.specs.declared.ordered_entries.Entry.TheVariants.{Running, Kept}
 use Rattle.futures_buffered.specs.FutureQueue.{OnlyPushes}
 use Rattle.futures_buffered.specs.Buffer.{StreamOf, Buffering, PollsStream, CallsInTurn, Accounts, all_drawn}
 use Rattle.futures_buffered.specs.Buffer.{all_outputs}

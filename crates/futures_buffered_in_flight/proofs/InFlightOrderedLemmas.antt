@@ -18,7 +18,7 @@ use Rattle.futures_buffered_unordered.proofs.StreamAnswersLemmas.{after_item, wh
 use Rattle.futures_buffered_ordered.specs.Numbered.{PollsNumberedSet, one_at}
 use Rattle.futures_buffered_ordered.specs.declared.numbered_polls.NumberedPolls.{Ghosts as NumberedPollsOf}
 use Rattle.futures_buffered_ordered.specs.OrderedEntries.{AddsBack, AddsFront, BesideTask, HandsBack, IsUnused, MayRefuse, Ordered, OrderedGives, PollsOrdered, QueueIsAtBound, SetYields, with_task}
-use Rattle.futures_buffered_ordered.specs.OrderedEntriesInvariant.{IsNumbered, Numbering}
+use Rattle.futures_buffered_ordered.specs.OrderedEntriesInvariant.{IsNumbered}
 use Rattle.futures_buffered_ordered.proofs.OrderedEntriesInvariantLemmas.{held_by_entries, new_is_numbered}
 use Rattle.futures_buffered_ordered.proofs.OrderedEntriesLemmas.{as_many_of, comes_before, comes_behind, empty_of, fewer_of, gives_alone, no_more_of, one_entry_more, one_entry_more_before, rest_of, same_of, unused_none, value_of}
 use Rattle.futures_buffered_in_flight.specs.InFlight.{Flights, FlightsWaitAt, FutureOf, IsNewInFlight, TagGives, flight_slots}
@@ -30,18 +30,18 @@ use Rattle.futures_buffered_in_flight.proofs.InFlightLemmas.{came_under, polled_
 use Rattle.futures_buffered_in_flight.proofs.InFlightQueueLemmas.{HasGrown, added_gives, flight_count, kept_room, polled_room, tag_counts, tagged_with, tags_freed}
 
 -- free slots, no entry, and a place for an entry of each slot
-pub new_keeps : {F A : Type 0} (grows : Bool) (q : Numbering (Flights F ℕ) A) (set : Flights F ℕ) (n : ℕ) → 0 < n → IsNewInFlight n set → q.queue.set ≡ set → q.queue.entries ≡ [] → q.outgoing ≡ 0 → (grows ≡ false → (n ≤ q.queue.room) × (n < 2 ^ 62)) → KeepsInOrder grows q
-new_keeps {F} grows q set n some new is none first places =
+pub new_keeps : {F A : Type 0} (grows : Bool) (q : Ordered (Flights F ℕ) A) (set : Flights F ℕ) (n : ℕ) → 0 < n → IsNewInFlight n set → q.set ≡ set → q.entries ≡ [] → (grows ≡ false → (n ≤ q.room) × (n < 2 ^ 62)) → KeepsInOrder grows q
+new_keeps {F} grows q set n some new is none places =
     let slots : flight_slots set ≡ n = ap length (ap (λ s. s.places) new.0) ∙ length-replicate n None in
-    let same : flight_slots q.queue.set ≡ n = ap (λ (s : Flights F ℕ). flight_slots s) is ∙ slots in
-    let empty : length q.queue.entries ≡ 0 = ap length none in
+    let same : flight_slots q.set ≡ n = ap (λ (s : Flights F ℕ). flight_slots s) is ∙ slots in
+    let empty : length q.entries ≡ 0 = ap length none in
     let none_held : held_count {F = Place ℕ} (no_slots n) ≡ 0 = sum_by-replicate (λ (o : Option (Place ℕ)). cond (is_some o) 1 0) n None ∙ omega arith in
     record {
-      numbered = new_is_numbered flights_with flight_count q set is none first
+      numbered = new_is_numbered flights_with flight_count q none
           (λ i.
           let none_tagged : tagged_with i (no_slots n) ≡ 0 = sum_by-replicate (λ (o : Option (Place ℕ)). cond (has_tag i o) 1 0) n None ∙ omega arith in
-          omega (arith, ap (λ s. tagged_with i s) new.0, none_tagged))
-          (omega (arith, ap (λ (s : Slots (Place ℕ)). held_count s) new.0, none_held));
+          rw is (omega (arith, ap (λ s. tagged_with i s) new.0, none_tagged)))
+          (rw is (omega (arith, ap (λ (s : Slots (Place ℕ)). held_count s) new.0, none_held)));
       some = omega (arith, same, some);
       bounded = λ b. record { bound = omega (arith, empty); fits = omega (arith, same, (places b).0); small = omega (arith, same, (places b).1) };
     }
@@ -53,10 +53,10 @@ module _ {F A : Type 0} where
   cleared false old new places set none room = record { new_set = set; no_entries = none; has_room = omega (arith, (places refl).fits, room) }
 
   -- a push into a queue that is not at its bound is refused only if it may be
-  may_refuse : (grows : Bool) (q : Numbering (Flights F ℕ) A) → KeepsInOrder grows q → (grows ≡ false → length q.queue.entries < flight_slots q.queue.set) → MayRefuse (MayRefuseNumber grows) q.queue → MayRefuseFuture grows q.queue
+  may_refuse : (grows : Bool) (q : Ordered (Flights F ℕ) A) → KeepsInOrder grows q → (grows ≡ false → length q.entries < flight_slots q.set) → MayRefuse (MayRefuseNumber grows) q → MayRefuseFuture grows q
   may_refuse true q keeps fewer may = may
   may_refuse false q keeps fewer (inl full) = absurd (omega (arith, full, (keeps.bounded refl).fits, fewer refl))
-  may_refuse false q keeps fewer (inr (inl full)) = absurd (omega (arith, full, fewer refl, held_by_entries flights_with flight_count q.queue.set q.queue.entries q.outgoing keeps.numbered))
+  may_refuse false q keeps fewer (inr (inl full)) = absurd (omega (arith, full, fewer refl, held_by_entries flights_with flight_count q keeps.numbered))
   may_refuse false q keeps fewer (inr (inr long)) = absurd (omega (arith, long, (keeps.bounded refl).small, fewer refl))
 
   -- such a queue refuses each push only if its set does
@@ -126,31 +126,31 @@ module _ {F A : Type 0} (future : FutureOf F A) where
   still old new Pending p = polled_tags future old new Pending p.2.0.gave p.2.0.narrows
 
   -- no future may give an output with a number that no entry has
-  none_with : (old : Numbering (Flights F ℕ) A) (i : ℕ) → IsNumbered flights_with flight_count old → IsUnused i old.queue.entries → (y : A) → TagGives future old.queue.set (i, y) → ⊥
-  none_with old i numbered unused y h = absurd (omega (arith, tag_counts i old.queue.set.slots h.0.slot h.0.push h.1, numbered.as_many i, unused_none i old.queue.entries unused))
+  none_with : (old : Ordered (Flights F ℕ) A) (i : ℕ) → IsNumbered flights_with flight_count old → IsUnused i old.entries → (y : A) → TagGives future old.set (i, y) → ⊥
+  none_with old i numbered unused y h = absurd (omega (arith, tag_counts i old.set.slots h.0.slot h.0.push h.1, numbered.as_many i, unused_none i old.entries unused))
 
-  module _ (grows : Bool) (old : Numbering (Flights F ℕ) A) (new : Ordered (Flights F ℕ) A) (item : F) (numbered : IsNumbered flights_with flight_count old) where
+  module _ (grows : Bool) (old new : Ordered (Flights F ℕ) A) (item : F) (numbered : IsNumbered flights_with flight_count old) where
     -- a push at one end, of which it is known what it adds to what may come
-    enters : (adds : (Flights F ℕ → F → ℕ → Flights F ℕ → Type 0) → Ordered (Flights F ℕ) A → F → Ordered (Flights F ℕ) A → Type 0) (with_one : (A → Type 0) → Runs A → Runs A) → adds (PushesQueued future grows) old.queue item new → (i : ℕ) → PushesQueued future grows old.queue.set item i new.set
-        → length new.entries ≡ length old.queue.entries + 1 → Within (with_one (future.gives item) (ComesOfEach future old.queue)) (ComesOfEach future new) → PushesInTurn future grows adds with_one old.queue item new
+    enters : (adds : (Flights F ℕ → F → ℕ → Flights F ℕ → Type 0) → Ordered (Flights F ℕ) A → F → Ordered (Flights F ℕ) A → Type 0) (with_one : (A → Type 0) → Runs A → Runs A) → adds (PushesQueued future grows) old item new → (i : ℕ) → PushesQueued future grows old.set item i new.set
+        → length new.entries ≡ length old.entries + 1 → Within (with_one (future.gives item) (ComesOfEach future old)) (ComesOfEach future new) → PushesInTurn future grows adds with_one old item new
     enters adds with_one added i pushed one_more comes =
-        record { added = added; one_more = one_more; comes = comes; same_room = kept_room future old.queue.set new.set item i grows pushed.0; again = pushed.1 }
+        record { added = added; one_more = one_more; comes = comes; same_room = kept_room future old.set new.set item i grows pushed.0; again = pushed.1 }
 
-    pub enters_back : AddsBack (PushesQueued future grows) old.queue item new → EntersBack future grows old.queue item new
+    pub enters_back : AddsBack (PushesQueued future grows) old item new → EntersBack future grows old item new
     enters_back added =
-        enters AddsBack _ added added.0 added.1.pushed (one_entry_more (PushesQueued future grows) old.queue new item added)
-        (comes_behind (TagGives future) future.gives (PushesQueued future grows) old.queue new item added (added_gives future old.queue.set new.set item added.0 grows added.1.pushed.0) (none_with old added.0 numbered added.1.unused))
+        enters AddsBack _ added added.0 added.1.pushed (one_entry_more (PushesQueued future grows) old new item added)
+        (comes_behind (TagGives future) future.gives (PushesQueued future grows) old new item added (added_gives future old.set new.set item added.0 grows added.1.pushed.0) (none_with old added.0 numbered added.1.unused))
 
-    pub enters_front : AddsFront (PushesQueued future grows) old.queue item new → EntersFront future grows old.queue item new
+    pub enters_front : AddsFront (PushesQueued future grows) old item new → EntersFront future grows old item new
     enters_front added =
-        enters AddsFront _ added added.0 added.1.pushed (one_entry_more_before (PushesQueued future grows) old.queue new item added)
-        (comes_before (TagGives future) future.gives (PushesQueued future grows) old.queue new item added (added_gives future old.queue.set new.set item added.0 grows added.1.pushed.0) (none_with old added.0 numbered added.1.unused))
+        enters AddsFront _ added added.0 added.1.pushed (one_entry_more_before (PushesQueued future grows) old new item added)
+        (comes_before (TagGives future) future.gives (PushesQueued future grows) old new item added (added_gives future old.set new.set item added.0 grows added.1.pushed.0) (none_with old added.0 numbered added.1.unused))
 
   module _
       (grows : Bool)
       (adds : (Flights F ℕ → F → ℕ → Flights F ℕ → Type 0) → Ordered (Flights F ℕ) A → F → Ordered (Flights F ℕ) A → Type 0)
       (with_one : (A → Type 0) → Runs A → Runs A)
-      (old : Numbering (Flights F ℕ) A)
+      (old : Ordered (Flights F ℕ) A)
       (item : F)
       (keeps : KeepsInOrder grows old)
     where
@@ -158,14 +158,14 @@ module _ {F A : Type 0} (future : FutureOf F A) where
       Enters = PushesInTurn future grows adds with_one
 
       -- a push into a queue that is not at its bound
-      pub pushed : (new : Ordered (Flights F ℕ) A) (result : Result (Unit {0}) F) → (grows ≡ false → length old.queue.entries < flight_slots old.queue.set)
-          → (adds (PushesQueued future grows) old.queue item new → Enters old.queue item new)
-          → OnOk result (adds (PushesQueued future grows) old.queue item new)
-          → IfErr result (λ back. HandsBack (MayRefuseNumber grows) old.queue item back new)
-          → (QueueIsAtBound (RefusesNumbers grows) old.queue → IsErr result) → CanPollQueue future new.set
-          → PushesOrComesBack future grows Enters old.queue item result new
+      pub pushed : (new : Ordered (Flights F ℕ) A) (result : Result (Unit {0}) F) → (grows ≡ false → length old.entries < flight_slots old.set)
+          → (adds (PushesQueued future grows) old item new → Enters old item new)
+          → OnOk result (adds (PushesQueued future grows) old item new)
+          → IfErr result (λ back. HandsBack (MayRefuseNumber grows) old item back new)
+          → (QueueIsAtBound (RefusesNumbers grows) old → IsErr result) → CanPollQueue future new.set
+          → PushesOrComesBack future grows Enters old item result new
       pushed new (Ok u) fewer entered added back large again =
-          record { went_in = entered added; back = tt; room = λ e. absurd (false≢true e); full = λ refuses. large (inr (set_refuses grows old.queue fewer refuses)); again = again }
+          record { went_in = entered added; back = tt; room = λ e. absurd (false≢true e); full = λ refuses. large (inr (set_refuses grows old fewer refuses)); again = again }
       pushed new (Err b) fewer entered added back large again =
           record { went_in = tt; back = (back.same, back.stays); room = λ _. may_refuse grows old keeps fewer back.may_refuse; full = λ _. refl; again = again }
 
@@ -198,16 +198,16 @@ module _ {F A : Type 0} (future : FutureOf F A) where
   poll_room old new (Ready (Some x)) h = ap (λ (s : Flights F ℕ). flight_slots s) h.last_step.1 ∙ row_room h.yielded old h.before h.row
   poll_room old new Pending h = (polled_room future h.before.set new.set Pending h.last_step.1.2.0.gave).0 ∙ row_room h.yielded old h.before h.row
 
-  module _ (grows : Bool) (old new : Numbering (Flights F ℕ) A) (answer : Poll (Option A)) (keeps : KeepsInOrder grows old) (cx after : Context) (poll : PollsOrdered flight_count HasGrown flying_polls old.queue answer new.queue cx after) where
-    polled : GivesInTurn old.queue answer new.queue
-    polled = alone old.queue new.queue answer cx after poll.gave
+  module _ (grows : Bool) (old new : Ordered (Flights F ℕ) A) (answer : Poll (Option A)) (keeps : KeepsInOrder grows old) (cx after : Context) (poll : PollsOrdered flight_count HasGrown flying_polls old answer new cx after) where
+    polled : GivesInTurn old answer new
+    polled = alone old new answer cx after poll.gave
 
-    same : flight_slots new.queue.set ≡ flight_slots old.queue.set
-    same = poll_room old.queue new.queue answer polled
+    same : flight_slots new.set ≡ flight_slots old.set
+    same = poll_room old new answer polled
 
     pub polled_keeps : IsNumbered flights_with flight_count new → KeepsInOrder grows new
     polled_keeps numbered =
-        let fewer = no_more_of Gave flight_count old.queue new.queue answer polled in
+        let fewer = no_more_of Gave flight_count old new answer polled in
         record {
           numbered = numbered;
           some = omega (arith, same, keeps.some);
@@ -216,18 +216,18 @@ module _ {F A : Type 0} (future : FutureOf F A) where
               record { bound = omega (arith, same, fewer, places.bound); fits = omega (arith, same, poll.queue.room, places.fits); small = omega (arith, same, places.small) };
         }
 
-    pub answers : IsNumbered flights_with flight_count new → AnswersInTurn future grows old.queue answer new.queue cx after
+    pub answers : IsNumbered flights_with flight_count new → AnswersInTurn future grows old answer new cx after
     answers numbered =
         record {
           gave = poll.gave;
-          empty = empty_of Gave flight_count old.queue new.queue answer polled;
-          fewer = fewer_of Gave flight_count old.queue new.queue answer polled;
-          same_count = as_many_of Gave flight_count old.queue new.queue answer polled;
+          empty = empty_of Gave flight_count old new answer polled;
+          fewer = fewer_of Gave flight_count old new answer polled;
+          same_count = as_many_of Gave flight_count old new answer polled;
           holds = poll.queue.holds;
           same_room = (same, poll.queue.room);
           bound = λ b. ((polled_keeps numbered).bounded b).bound;
           registered = poll.queue.covered;
-          started = wakes old.queue new.queue answer cx after poll.gave;
+          started = wakes old new answer cx after poll.gave;
           kept = poll.queue.kept;
           again = poll.queue.pollable;
         }

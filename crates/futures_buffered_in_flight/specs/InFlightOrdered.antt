@@ -13,7 +13,7 @@ use Rattle.futures_buffered_core.specs.SlotMap.{held_count}
 use Rattle.futures_buffered_unordered.specs.FuturesUnorderedBounded.{IsWoken}
 use Rattle.futures_buffered_ordered.specs.OrderedEntries.{Ordered, AddsBack, AddsFront, BesideTask, ComesInOrder, IsNewQueue}
 use Rattle.futures_buffered_ordered.specs.OrderedEntries.{MayRefuse, OrderedGives, with_task}
-use Rattle.futures_buffered_ordered.specs.OrderedEntriesInvariant.{IsNumbered, Numbering}
+use Rattle.futures_buffered_ordered.specs.OrderedEntriesInvariant.{IsNumbered}
 use Rattle.futures_buffered_in_flight.specs.InFlight.{Flights, FlightsWaitAt, FutureOf, HasNoRoom, IsNewInFlight, IsUsedUp}
 use Rattle.futures_buffered_in_flight.specs.InFlight.{TagGives, flight_slots}
 use Rattle.futures_buffered_in_flight.specs.InFlightQueue.{CanPollQueue, KeepsRoom, PollsQueued, PushesQueued, flights_with}
@@ -46,11 +46,12 @@ pub record HasPlaces {F A : Type 0} (q : Ordered (Flights F ℕ) A) : Type 0 whe
   pub fits : flight_slots q.set ≤ q.room
   pub small : flight_slots q.set < 2 ^ 62
 
--- How the queue keeps itself: the numbers are in order, there is a slot, and a bounded queue has its places.
-pub record KeepsInOrder {F A : Type 0} (grows : Bool) (q : Numbering (Flights F ℕ) A) : Type 0 where
+-- How the queue keeps itself: the futures are those of the entries in progress, there is a slot, and a bounded queue has
+-- its places.
+pub record KeepsInOrder {F A : Type 0} (grows : Bool) (q : Ordered (Flights F ℕ) A) : Type 0 where
   pub numbered : IsNumbered flights_with (λ set. held_count set.slots) q
-  pub some : 0 < flight_slots q.queue.set
-  pub bounded : grows ≡ false → HasPlaces q.queue
+  pub some : 0 < flight_slots q.set
+  pub bounded : grows ≡ false → HasPlaces q
 
 -- a push may be refused: a bounded queue is full; in a queue that grows the entry might have needed an allocation, the
 -- set had no room, or there were as many entries as there can be

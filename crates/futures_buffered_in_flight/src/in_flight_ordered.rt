@@ -46,7 +46,7 @@ impl<F: Drop, A: Drop, K: Kind> Model for FuturesOrderedBy<F, A, K> {
 
     ghost Value = { Ordered (Flights F ℕ) A };
 
-    ghost view = { λ q. q.queue.queue };
+    ghost view = { λ q. q.queue };
 
     ghost invariant = { λ q. KeepsInOrder K.GROWS q.queue };
 }

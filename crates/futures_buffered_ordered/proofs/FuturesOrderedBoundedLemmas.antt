@@ -21,37 +21,36 @@ use Rattle.futures_buffered_unordered.proofs.StreamAnswersLemmas.{covers_fewer}
 use Rattle.futures_buffered_unordered.proofs.FuturesUnorderedBoundedLemmas.{poll_gave, poll_still}
 use Rattle.futures_buffered_ordered.specs.Numbered.{held_with, of_numbered}
 use Rattle.futures_buffered_ordered.specs.OrderedEntries.{BesideTask, MayRefuse, Ordered, OrderedGives, SetYields, with_task}
-use Rattle.futures_buffered_ordered.specs.OrderedEntriesInvariant.{Numbering}
 use Rattle.futures_buffered_ordered.specs.FuturesOrderedBounded.{OrderedBounded, PollsOrderedBounded, SetGives, SetIsFull, SetMayGive, TakesFewNames, names_of_row, names_taken}
 use Rattle.futures_buffered_ordered.specs.FuturesOrderedBoundedInvariant.{KeepsBoundedQueue}
 use Rattle.futures_buffered_ordered.specs.declared.numbered.Numbered.{Numbered}
-use Rattle.futures_buffered_ordered.proofs.OrderedEntriesInvariantLemmas.{held_by_entries, KeepsNumbers-polled, KeepsNumbers-new}
+use Rattle.futures_buffered_ordered.proofs.OrderedEntriesInvariantLemmas.{held_by_entries, new_is_numbered, polled_is_numbered}
 use Rattle.futures_buffered_ordered.proofs.NumberedLemmas.{in_slots, numbers_none}
 use Rattle.futures_buffered_ordered.proofs.OrderedEntriesLemmas.{gives_alone}
 
 -- where there are fewer entries than slots, no push is refused
-pub has_room : {F A S : Type 0} (q : Numbering (Bounded (Numbered F) S) A) → KeepsBoundedQueue q → length q.queue.entries < slot_count q.queue.set.slots → MayRefuse SetIsFull q.queue → ⊥
+pub has_room : {F A S : Type 0} (q : OrderedBounded F A S) → KeepsBoundedQueue q → length q.entries < slot_count q.set.slots → MayRefuse SetIsFull q → ⊥
 has_room q keeps fewer (inl full) = absurd (omega (arith, full, keeps.fits, fewer))
-has_room q keeps fewer (inr (inl full)) = absurd (omega (arith, full, fewer, held_by_entries held_with held_in q.queue.set q.queue.entries q.outgoing keeps.numbered))
+has_room q keeps fewer (inr (inl full)) = absurd (omega (arith, full, fewer, held_by_entries held_with held_in q keeps.numbered))
 has_room q keeps fewer (inr (inr long)) = absurd (omega (arith, long, keeps.small, fewer))
 
 module _ {F A S : Type 0} where
   -- marks change neither what is held nor the entries
-  pub marked_keeps : (old : Numbering (Bounded (Numbered F) S) A) (new : Bounded (Numbered F) S) → new.slots ≡ old.queue.set.slots → KeepsBoundedQueue old → KeepsBoundedQueue (record { queue = record { set = new; entries = old.queue.entries; room = old.queue.room }; places = old.places; outgoing = old.outgoing })
+  pub marked_keeps : (old : OrderedBounded F A S) (new : Bounded (Numbered F) S) → new.slots ≡ old.set.slots → KeepsBoundedQueue old → KeepsBoundedQueue (record { set = new; entries = old.entries; room = old.room })
   marked_keeps old new same keeps =
       record {
-        numbered = KeepsNumbers-polled held_with held_in old.queue.set new old.queue.entries old.outgoing keeps.numbered (λ n. ap (in_slots n) same) (ap held_count same);
+        numbered = polled_is_numbered held_with held_in old new keeps.numbered (λ n. ap (in_slots n) same) (ap held_count same);
         fits = rw same keeps.fits;
         small = rw same keeps.small;
       }
 
   -- free slots, no entry, and room for an entry of each slot
-  pub new_keeps : (q : Numbering (Bounded (Numbered F) S) A) (cap : ℕ) → q.queue.set.slots ≡ no_slots cap → q.queue.entries ≡ [] → cap ≤ q.queue.room → q.outgoing ≡ 0 → cap ≤ MAX_CAPACITY → KeepsBoundedQueue q
-  new_keeps q cap free none room first small =
-      let slots : slot_count q.queue.set.slots ≡ cap = ap slot_count free ∙ length-replicate cap None in
-      let held : held_in q.queue.set ≡ 0 = ap held_count free ∙ (sum_by-replicate (λ (o : Option (Numbered F)). cond (is_some o) 1 0) cap None ∙ omega arith) in
+  pub new_keeps : (q : OrderedBounded F A S) (cap : ℕ) → q.set.slots ≡ no_slots cap → q.entries ≡ [] → cap ≤ q.room → cap ≤ MAX_CAPACITY → KeepsBoundedQueue q
+  new_keeps q cap free none room small =
+      let slots : slot_count q.set.slots ≡ cap = ap slot_count free ∙ length-replicate cap None in
+      let held : held_in q.set ≡ 0 = ap held_count free ∙ (sum_by-replicate (λ (o : Option (Numbered F)). cond (is_some o) 1 0) cap None ∙ omega arith) in
       record {
-        numbered = rw first (KeepsNumbers-new held_with held_in q.queue.set q.queue.entries none (λ n. numbers_none n q.queue.set cap free) held);
+        numbered = new_is_numbered held_with held_in q none (λ n. numbers_none n q.set cap free) held;
         fits = omega (arith, slots, room);
         small = omega (arith, slots, small);
       }

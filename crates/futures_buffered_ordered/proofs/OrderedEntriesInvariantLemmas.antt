@@ -1,62 +1,69 @@
 -- What the calls of an ordered queue make of its entries and their numbers.
-use Rattle.std.proofs.Common.{◌≡◌, ◌≢◌, ◌⊎◌, ℕ, zero, suc, ◌+◌, ◌-◌, ◌^◌, ◌%◌, ◌<◌, ◌≤◌, Bool, true, true≢false, cond, List, [], ◌∷◌, ◌++◌, length, set, count_by, Option, Some, Ok, refl, sym, subst, ap, inl, inr, arith, length-set, ◌∙◌}
+use Rattle.std.proofs.Common.{◌≡◌, ◌⊎◌, ℕ, zero, suc, ◌+◌, ◌-◌, ◌^◌, ◌%◌, ◌<◌, ◌≤◌, Bool, true, true≢false, cond, List, [], ◌∷◌, ◌++◌, length, set, count_by, Option, Some, None, Ok, Err, refl, sym, subst, ap, inl, inr, arith, ◌∙◌}
 use Rattle.std.specs.List.{slice_get, sum_by}
-use Rattle.std.proofs.lemmas.List.{length_push}
 use Rattle.std.proofs.lemmas.List.Sums.{sum_by-cons, sum_by-set, sum_by_push, count_by-le-length}
-use Rattle.std.proofs.lemmas.Bool.{cases_lt, eq-eqb}
+use Rattle.std.proofs.lemmas.Bool.{eq-eqb}
 use Rattle.std.proofs.lemmas.Bool.Decides.{eqb_tells}
 use Rattle.std.proofs.lemmas.Option.{slice_get_within, get_or_from_slice_get}
-use Rattle.futures_buffered_ordered.specs.Numbered.{one_at}
-use Rattle.futures_buffered_ordered.specs.OrderedEntries.{AddsBack, AddsFront, EachHasOne, IsLength, IsUnused, NumberedSetOf, PushesOrHandsBack, QueueIsAtBound, is_running, runs_with, starts_running}
-use Rattle.futures_buffered_ordered.specs.OrderedEntriesInvariant.{Admits, IsNumbered, KeepsNumbers, Numbering, place_of}
-use Rattle.futures_buffered_ordered.specs.declared.ordered_entries.Entry.{Entry}
-use Rattle.futures_buffered_ordered.specs.declared.ordered_entries.Entry.TheVariants.{Running, Kept}
+use Rattle.futures.specs.declared.task.context.Context.{Context}
+use Rattle.futures.specs.declared.task.Poll.TheVariants.{Ready}
+use Rattle.futures_buffered_unordered.specs.Groups.{outputs_in}
+use Rattle.futures_buffered_ordered.specs.Numbered.{NumberedPollsOf, PollsNumberedSet, PushesInto, one_at, outputs_with}
+use Rattle.futures_buffered_ordered.specs.OrderedEntries.{AddsBack, AddsFront, BesideTask, Entry, IsLength, IsUnused, Kept, MayRefuse, NoNumberTwice, NumberedSetOf, Ordered, PushesOrHandsBack, QueueIsAtBound, Running, SetYields, is_running, runs_with, starts_running}
+use Rattle.futures_buffered_ordered.specs.OrderedEntriesInvariant.{AddingKeeps, IsNumbered, entry_of, numbered_from}
+use Rattle.futures_buffered_ordered.specs.declared.ordered_entries.TheConstants.{MAX_LEN}
 
-module _ {X : Type 0} where
-  pub get-set_same : (xs : List X) (k : ℕ) (y : X) → k < length xs → slice_get (set xs k y) k ≡ Some y
-  get-set_same [] k y below = absurd (omega (arith, below))
-  get-set_same (x ∷ xs) zero y below = refl
-  get-set_same (x ∷ xs) (suc k) y below = get-set_same xs k y (omega (arith, below))
+-- the place of the entry with this number, if the front has the number `outgoing`
+abbrev pub place_of : ℕ → ℕ → ℕ
+place_of outgoing number = (number + (2 ^ 64 - outgoing)) % 2 ^ 64
 
-  pub get-set_other : (xs : List X) (k j : ℕ) (y : X) → j ≢ k → slice_get (set xs k y) j ≡ slice_get xs j
-  get-set_other [] k j y other = refl
-  get-set_other (x ∷ xs) zero zero y other = absurd (other refl)
-  get-set_other (x ∷ xs) zero (suc j) y other = refl
-  get-set_other (x ∷ xs) (suc k) zero y other = refl
-  get-set_other (x ∷ xs) (suc k) (suc j) y other = get-set_other xs k j y (λ e. other (ap suc e))
-
-  pub get-append_left : (xs ys : List X) (k : ℕ) → k < length xs → slice_get (xs ++ ys) k ≡ slice_get xs k
-  get-append_left [] ys k below = absurd (omega (arith, below))
-  get-append_left (x ∷ xs) ys zero below = refl
-  get-append_left (x ∷ xs) ys (suc k) below = get-append_left xs ys k (omega (arith, below))
-
-  pub get-append_end : (xs : List X) (y : X) → slice_get (xs ++ y ∷ []) (length xs) ≡ Some y
-  get-append_end [] y = refl
-  get-append_end (x ∷ xs) y = get-append_end xs y
-
-one_self : (i : ℕ) → one_at i i ≡ 1
-one_self i = ap (λ (b : Bool). cond b 1 0) (eq-eqb i i refl)
-
--- the place of the entry with this number
-pub place_found : (o k i : ℕ) → o < 2 ^ 64 → k < 2 ^ 63 → i ≡ (o + k) % 2 ^ 64 → place_of o i ≡ k
+place_found : (o k i : ℕ) → o < 2 ^ 64 → k < 2 ^ 63 → i ≡ (o + k) % 2 ^ 64 → place_of o i ≡ k
 place_found o k i word short is = rw is (omega (arith, word, short))
-
--- two places with the same number are the same
-same_place : (o j k i : ℕ) → o < 2 ^ 64 → j < 2 ^ 63 → k < 2 ^ 63 → i ≡ (o + j) % 2 ^ 64 → i ≡ (o + k) % 2 ^ 64 → j ≡ k
-same_place o j k i word a b is also = sym (place_found o j i word a is) ∙ place_found o k i word b also
 
 module _ {A : Type 0} where
   running_same : {i j : ℕ} → ◌≡◌ {A = Option (Entry A)} (Some (Running i)) (Some (Running j)) → i ≡ j
   running_same e = cc
 
-  pub not_kept : {x : A} {i : ℕ} → ◌≡◌ {A = Option (Entry A)} (Some (Kept x)) (Some (Running i)) → ⊥
+  not_kept : {x : A} {i : ℕ} → ◌≡◌ {A = Option (Entry A)} (Some (Kept x)) (Some (Running i)) → ⊥
   not_kept e = cc
+
+  -- entries have the numbers of their places
+  pub numbered-length : (o : ℕ) (es : List (Option A)) → length (numbered_from o es) ≡ length es
+  numbered-length o [] = refl
+  numbered-length o (e ∷ es) = ap suc (numbered-length (o + 1) es)
+
+  running_at : (o k i : ℕ) (es : List (Option A)) → slice_get (numbered_from o es) k ≡ Some (Running i) → (k < length es) × (i ≡ (o + k) % 2 ^ 64)
+  running_at o k i [] h = absurd (omega (arith, slice_get_within {A = Entry A} [] k (Running i) h))
+  running_at o zero i (None ∷ es) h = let same = running_same h in (omega arith, omega (arith, same))
+  running_at o zero i (Some x ∷ es) h = absurd (not_kept h)
+  running_at o (suc k) i (e ∷ es) h = let there = running_at (o + 1) k i es h in (omega (arith, there.0), omega (arith, there.1))
+
+  pub once_numbered : (o : ℕ) (es : List (Option A)) → length es < 2 ^ 63 → NoNumberTwice (numbered_from o es)
+  once_numbered o es short j k i a b =
+      let first = running_at o j i es a in
+      let second = running_at o k i es b in
+      omega (arith, short, first.0, first.1, second.0, second.1)
+
+  -- only the remainder of the front's number counts
+  pub numbered-same : (o p : ℕ) (es : List (Option A)) → o % 2 ^ 64 ≡ p % 2 ^ 64 → numbered_from o es ≡ numbered_from p es
+  numbered-same o p [] same = refl
+  numbered-same o p (e ∷ es) same = ap (λ l. entry_of o e ∷ l) (numbered-same (o + 1) (p + 1) es (omega (arith, same))) ∙ ap (λ d. d ∷ numbered_from (p + 1) es) (by_entry e)
+    where
+      by_entry : (e : Option A) → entry_of o e ≡ entry_of p e
+      by_entry None = ap (λ n. Running n) same
+      by_entry (Some x) = refl
+
+  numbered-append : (o : ℕ) (es : List (Option A)) → numbered_from o (es ++ None ∷ []) ≡ numbered_from o es ++ Running ((o + length es) % 2 ^ 64) ∷ []
+  numbered-append o [] = ap (λ n. Running n ∷ []) (omega arith)
+  numbered-append o (e ∷ es) = ap (λ l. entry_of o e ∷ l) (numbered-append (o + 1) es ∙ ap (λ n. numbered_from (o + 1) es ++ Running n ∷ []) (omega arith))
+
+  pub numbered-set : (o k : ℕ) (es : List (Option A)) (x : A) → numbered_from o (set es k (Some x)) ≡ set (numbered_from o es) k (Kept x)
+  numbered-set o k [] x = refl
+  numbered-set o zero (e ∷ es) x = refl
+  numbered-set o (suc k) (e ∷ es) x = ap (λ l. entry_of o e ∷ l) (numbered-set (o + 1) k es x)
 
   abbrev runs : ℕ → Entry A → ℕ
   runs i e = cond (runs_with i e) 1 0
-
-  abbrev runs_any : Entry A → ℕ
-  runs_any e = cond (is_running e) 1 0
 
   -- a number that entries have is that of one of them
   pub entry_with : (i : ℕ) (es : List (Entry A)) → 0 < count_by (runs_with i) es → (k : ℕ) × (slice_get es k ≡ Some (Running i))
@@ -73,216 +80,143 @@ module _ {A : Type 0} where
   ]
 
   -- an entry that keeps an output is in progress no more
+  count-set : (p : Entry A → Bool) (n k : ℕ) (es : List (Entry A)) (x : A) → slice_get es k ≡ Some (Running n) → count_by p (set es k (Kept x)) + cond (p (Running n)) 1 0 ≡ count_by p es + cond (p (Kept x)) 1 0
+  count-set p n k es x at =
+      let one : Entry A → ℕ = λ e. cond (p e) 1 0 in
+      subst (λ (e : Entry A). sum_by one (set es k (Kept x)) + one e ≡ sum_by one es + one (Kept x)) (get_or_from_slice_get es k (Running n) (Kept x) at) (sum_by-set one es k (Kept x) (Kept x) (slice_get_within es k (Running n) at))
+
   pub runs-set : (i n k : ℕ) (es : List (Entry A)) (x : A) → slice_get es k ≡ Some (Running n) → count_by (runs_with i) (set es k (Kept x)) + one_at i n ≡ count_by (runs_with i) es
-  runs-set i n k es x at =
-      let was = get_or_from_slice_get es k (Running n) (Kept x) at in
-      let step : sum_by (runs i) (set es k (Kept x)) + one_at i n ≡ sum_by (runs i) es + 0 = subst (λ (e : Entry A). sum_by (runs i) (set es k (Kept x)) + runs i e ≡ sum_by (runs i) es + runs i (Kept x)) was (sum_by-set (runs i) es k (Kept x) (Kept x) (slice_get_within es k (Running n) at)) in
-      omega (arith, step)
-
-  pub running-set : (n k : ℕ) (es : List (Entry A)) (x : A) → slice_get es k ≡ Some (Running n) → count_by is_running (set es k (Kept x)) + 1 ≡ count_by is_running es
-  running-set n k es x at =
-      let was = get_or_from_slice_get es k (Running n) (Kept x) at in
-      let step : sum_by runs_any (set es k (Kept x)) + 1 ≡ sum_by runs_any es + 0 = subst (λ (e : Entry A). sum_by runs_any (set es k (Kept x)) + runs_any e ≡ sum_by runs_any es + runs_any (Kept x)) was (sum_by-set runs_any es k (Kept x) (Kept x) (slice_get_within es k (Running n) at)) in
-      omega (arith, step)
-
-  -- where the front is in progress, an entry is
-  pub some_running : (es : List (Entry A)) → starts_running es ≡ true → 0 < count_by is_running es
-  some_running [] e = absurd (true≢false (sym e))
-  some_running (Running i ∷ es) e = omega (arith, sum_by-cons runs_any (Running i) es)
-  some_running (Kept x ∷ es) e = absurd (true≢false (sym e))
+  runs-set i n k es x at = let step : count_by (runs_with i) (set es k (Kept x)) + one_at i n ≡ count_by (runs_with i) es + 0 = count-set (runs_with i) n k es x at in omega (arith, step)
 
 module _ {Q A : Type 0} (with_number : ℕ → Q → ℕ) (count : Q → ℕ) where
-  module _ (old new : Q) (es : List (Entry A)) (o i : ℕ) (keeps : KeepsNumbers with_number count old es o)
-      (more : (n : ℕ) → with_number n new ≡ with_number n old + one_at n i)
-      (one : count new ≡ count old + 1) (fits : length es + 1 < 2 ^ 63) where
-    pub KeepsNumbers-back : i ≡ (o + length es) % 2 ^ 64 → KeepsNumbers with_number count new (es ++ Running i ∷ []) o
-    KeepsNumbers-back is =
-        record {
-          placed = λ k j h. elim (cases_lt k (length es)) [
-            | inl below ↦ keeps.placed k j (sym (get-append_left es (Running i ∷ []) k below) ∙ h)
-            | inr past ↦
-                let within = slice_get_within (es ++ Running i ∷ []) k (Running j) h in
-                let end : k ≡ length es = omega (arith, past, within, length_push {X = Entry A} es (Running i)) in
-                let same : i ≡ j = running_same (sym (get-append_end es (Running i)) ∙ rw end at h) in
-                sym same ∙ is ∙ ap (λ n. (o + n) % 2 ^ 64) (sym end)
-          ];
-          as_many = λ n. let there : with_number n old ≡ count_by (runs_with n) es = keeps.as_many n in
-              let added : count_by (runs_with n) (es ++ Running i ∷ []) ≡ count_by (runs_with n) es + one_at n i = sum_by_push (runs n) es (Running i) in
-              omega (arith, there, added, more n);
-          counted = let added : count_by is_running (es ++ Running i ∷ []) ≡ count_by is_running es + 1 = sum_by_push runs_any es (Running i) in
-              omega (arith, keeps.counted, added, one);
-          short = omega (arith, fits, length_push {X = Entry A} es (Running i));
-          word = keeps.word;
-        }
-
-    pub KeepsNumbers-front : i ≡ (o + (2 ^ 64 - 1)) % 2 ^ 64 → KeepsNumbers with_number count new (Running i ∷ es) i
-    KeepsNumbers-front is =
-        record {
-          placed = placed_at;
-          as_many = λ n. let there : with_number n old ≡ count_by (runs_with n) es = keeps.as_many n in
-              let added : count_by (runs_with n) (Running i ∷ es) ≡ one_at n i + count_by (runs_with n) es = sum_by-cons (runs n) (Running i) es in
-              omega (arith, there, added, more n);
-          counted = let added : count_by is_running (Running i ∷ es) ≡ 1 + count_by is_running es = sum_by-cons runs_any (Running i) es in
-              omega (arith, keeps.counted, added, one);
-          short = omega (arith, fits);
-          word = omega (arith, is);
-        }
-      where
-        placed_at : (k j : ℕ) → slice_get (Running i ∷ es) k ≡ Some (Running j) → j ≡ (i + k) % 2 ^ 64
-        placed_at zero j h = let same : i ≡ j = running_same h in omega (arith, same, is)
-        placed_at (suc k) j h =
-            let old_place = keeps.placed k j h in
-            omega (arith, old_place, is, keeps.word)
-
-  -- the entry with number i keeps its output
-  pub KeepsNumbers-kept : (old new : Q) (es : List (Entry A)) (o i k : ℕ) (x : A) → KeepsNumbers with_number count old es o
-      → ((n : ℕ) → with_number n new + one_at n i ≡ with_number n old)
-      → count new + 1 ≡ count old → slice_get es k ≡ Some (Running i) → KeepsNumbers with_number count new (set es k (Kept x)) o
-  KeepsNumbers-kept old new es o i k x keeps fewer one at =
-      let within : k < length es = slice_get_within es k (Running i) at in
-      record {
-        placed = λ q j h. elim (cases_same q k) [
-          | inl same ↦ absurd (not_kept (sym (get-set_same es k (Kept x) within) ∙ rw same at h))
-          | inr other ↦ keeps.placed q j (sym (get-set_other es k q (Kept x) other) ∙ h)
-        ];
-        as_many = λ n. omega (arith, keeps.as_many n, fewer n, runs-set n i k es x at);
-        counted = omega (arith, keeps.counted, one, running-set i k es x at);
-        short = omega (arith, keeps.short, length-set es k (Kept x));
-        word = keeps.word;
-      }
-    where
-      cases_same : (a b : ℕ) → (a ≡ b) ⊎ (a ≢ b)
-      cases_same a b = elim (eqb_tells a b) [ inl same ↦ inl same.1 | inr other ↦ inr other.1 ]
-
-  -- where the set gave an output with number i, an entry has that number, and stands at its place
-  pub stands_at : (old new : Q) (es : List (Entry A)) (o i : ℕ) → KeepsNumbers with_number count old es o
-      → with_number i new + one_at i i ≡ with_number i old → slice_get es (place_of o i) ≡ Some (Running i)
-  stands_at old new es o i keeps fewer =
-      let there = entry_with i es (omega (arith, keeps.as_many i, fewer, one_self i)) in
-      let at : place_of o i ≡ there.0 = place_found o there.0 i keeps.word (omega (arith, keeps.short, slice_get_within es there.0 (Running i) there.1)) (keeps.placed there.0 i there.1) in
-      rw at there.1
-
-  -- the set holds as many futures of each number
-  pub KeepsNumbers-polled : (old new : Q) (es : List (Entry A)) (o : ℕ) → KeepsNumbers with_number count old es o
-      → ((n : ℕ) → with_number n new ≡ with_number n old) → count new ≡ count old → KeepsNumbers with_number count new es o
-  KeepsNumbers-polled old new es o keeps same counts =
-      record {
-        placed = keeps.placed;
-        as_many = λ n. same n ∙ keeps.as_many n;
-        counted = counts ∙ keeps.counted;
-        short = keeps.short;
-        word = keeps.word;
-      }
-
-  -- the front kept its output, and leaves
-  pub KeepsNumbers-popped : (set : Q) (es after : List (Entry A)) (o : ℕ) (x : A) → KeepsNumbers with_number count set es o → es ≡ Kept x ∷ after
-      → KeepsNumbers with_number count set after ((o + 1) % 2 ^ 64)
-  KeepsNumbers-popped set es after o x keeps is =
-      record {
-        placed = λ k i h. let was : i ≡ (o + suc k) % 2 ^ 64 = keeps.placed (suc k) i (rw is h) in omega (arith, was, keeps.word);
-        as_many = λ n. let was : with_number n set ≡ count_by (runs_with n) (Kept x ∷ after) = subst (λ (l : List (Entry A)). with_number n set ≡ count_by (runs_with n) l) is (keeps.as_many n) in
-            omega (arith, was, sum_by-cons (runs n) (Kept x) after);
-        counted = let was : count set ≡ count_by is_running (Kept x ∷ after) = subst (λ (l : List (Entry A)). count set ≡ count_by is_running l) is keeps.counted in
-            omega (arith, was, sum_by-cons runs_any (Kept x) after);
-        short = let was : length (Kept x ∷ after) < 2 ^ 63 = subst (λ (l : List (Entry A)). length l < 2 ^ 63) is keeps.short in omega (arith, was);
-        word = omega arith;
-      }
-
-  -- a new queue: nothing is held, and there is no entry
-  pub KeepsNumbers-new : (set : Q) (es : List (Entry A)) → es ≡ [] → ((n : ℕ) → with_number n set ≡ 0) → count set ≡ 0 → KeepsNumbers with_number count set es 0
-  KeepsNumbers-new set es none no_numbers empty =
-      rw none (record {
-        placed = λ k i h. absurd (nothing k i h);
-        as_many = λ n. no_numbers n;
-        counted = empty;
-        short = omega arith;
-        word = omega arith;
-      })
-    where
-      nothing : (k i : ℕ) → slice_get {X = Entry A} [] k ≡ Some (Running i) → ⊥
-      nothing k i h = absurd (omega (arith, slice_get_within {A = Entry A} [] k (Running i) h))
-
-  pub new_is_numbered : (q : Numbering Q A) (set : Q) → q.queue.set ≡ set → q.queue.entries ≡ [] → q.outgoing ≡ 0 → ((n : ℕ) → with_number n set ≡ 0) → count set ≡ 0 → IsNumbered with_number count q
-  new_is_numbered q set is none first no_numbers empty = rw (is, first) (KeepsNumbers-new set q.queue.entries none no_numbers empty)
-
-  pub each_has_one : (set : Q) (es : List (Entry A)) (o room : ℕ) → KeepsNumbers with_number count set es o → EachHasOne with_number (record { set = set; entries = es; room = room })
-  each_has_one set es o room keeps =
-      record {
-        as_many = keeps.as_many;
-        once = λ j k i a b. same_place o j k i keeps.word (omega (arith, keeps.short, slice_get_within es j (Running i) a)) (omega (arith, keeps.short, slice_get_within es k (Running i) b)) (keeps.placed j i a) (keeps.placed k i b);
-      }
-
   -- no more futures are in progress than there are entries
-  pub held_by_entries : (set : Q) (es : List (Entry A)) (o : ℕ) → KeepsNumbers with_number count set es o → count set ≤ length es
-  held_by_entries set es o keeps = omega (arith, keeps.counted, count_by-le-length is_running es)
+  pub held_by_entries : (q : Ordered Q A) → IsNumbered with_number count q → count q.set ≤ length q.entries
+  held_by_entries q numbered = omega (arith, numbered.counted, count_by-le-length is_running q.entries)
 
   -- what a queue says of its length
-  pub is_length : (q : Numbering Q A) (n : ℕ) → IsNumbered with_number count q → n ≡ length q.queue.entries → IsLength with_number count q.queue n
-  is_length q n keeps long =
+  pub is_length : (q : Ordered Q A) (n : ℕ) → IsNumbered with_number count q → n ≡ length q.entries → NoNumberTwice q.entries → IsLength with_number count q n
+  is_length q n numbered long once =
+      record { value = long; each = record { as_many = numbered.as_many; once = once }; in_progress = held_by_entries q numbered }
+
+  -- a queue whose front is in progress holds a future
+  pub some_held : (q : Ordered Q A) → IsNumbered with_number count q → starts_running q.entries ≡ true → 0 < count q.set
+  some_held q numbered runs = let some = some_running q.entries runs in omega (arith, numbered.counted, some)
+    where
+      some_running : (es : List (Entry A)) → starts_running es ≡ true → 0 < count_by is_running es
+      some_running [] e = absurd (true≢false (sym e))
+      some_running (Running i ∷ es) e = omega (arith, sum_by-cons (λ (d : Entry A). cond (is_running d) 1 0) (Running i) es)
+      some_running (Kept x ∷ es) e = absurd (true≢false (sym e))
+
+  -- a new queue: nothing is held, and there is no entry
+  pub new_is_numbered : (q : Ordered Q A) → q.entries ≡ [] → ((n : ℕ) → with_number n q.set ≡ 0) → count q.set ≡ 0 → IsNumbered with_number count q
+  new_is_numbered q none no_numbers empty =
       record {
-        value = long;
-        each = each_has_one q.queue.set q.queue.entries q.outgoing q.queue.room keeps;
-        in_progress = held_by_entries q.queue.set q.queue.entries q.outgoing keeps;
+        as_many = λ n. no_numbers n ∙ ap (λ (l : List (Entry A)). count_by (runs_with n) l) (sym none);
+        counted = empty ∙ ap (λ (l : List (Entry A)). count_by is_running l) (sym none);
       }
 
-  pub some_held : (set : Q) (es : List (Entry A)) (o : ℕ) → KeepsNumbers with_number count set es o → starts_running es ≡ true → 0 < count set
-  some_held set es o keeps runs = omega (arith, keeps.counted, some_running es runs)
+  -- the set holds as many futures of each number
+  pub polled_is_numbered : (q : Ordered Q A) (new : Q) → IsNumbered with_number count q
+      → ((n : ℕ) → with_number n new ≡ with_number n q.set) → count new ≡ count q.set → IsNumbered with_number count (record { set = new; entries = q.entries; room = q.room })
+  polled_is_numbered q new numbered same counts = record { as_many = λ n. same n ∙ numbered.as_many n; counted = counts ∙ numbered.counted }
 
-module _ {Q A : Type 0} (with_number : ℕ → Q → ℕ) (count : Q → ℕ) (old new : Q) (es : List (Entry A)) (o i : ℕ) (keeps : KeepsNumbers with_number count old es o)
-    (more : (n : ℕ) → with_number n new ≡ with_number n old + one_at n i) (one : count new ≡ count old + 1) (fits : length es + 1 < 2 ^ 63) where
-  -- an entry more behind all others, or before them
-  pub back_keeps : (n : ℕ) (after : List (Entry A)) → n ≡ length es → i ≡ (o + n) % 2 ^ 64 → after ≡ es ++ Running i ∷ [] → KeepsNumbers with_number count new after o
-  back_keeps n after long is now =
-      subst (λ (l : List (Entry A)). KeepsNumbers with_number count new l o) (sym now)
-      (KeepsNumbers-back with_number count old new es o i keeps more one fits (is ∙ ap (λ k. (o + k) % 2 ^ 64) long))
+  -- the front kept its output, and leaves
+  pub popped_is_numbered : (q new : Ordered Q A) (x : A) → IsNumbered with_number count q → q.entries ≡ Kept x ∷ new.entries → new.set ≡ q.set → IsNumbered with_number count new
+  popped_is_numbered q new x numbered front same =
+      record {
+        as_many = λ n. ap (λ (s : Q). with_number n s) same ∙ numbered.as_many n ∙ ap (λ (l : List (Entry A)). count_by (runs_with n) l) front;
+        counted = ap (λ (s : Q). count s) same ∙ numbered.counted ∙ ap (λ (l : List (Entry A)). count_by is_running l) front;
+      }
 
--- the entry of a future that went into the set came behind all others
-pub back_admitted : {F Q A : Type 0} (numbers : NumberedSetOf Q F) (old mid : Numbering Q A) (future : F) (i n : ℕ) (after : List (Entry A))
-    → IsNumbered numbers.with_number numbers.count old → Admits numbers old.queue future i mid.queue → mid.outgoing ≡ old.outgoing → n ≡ length old.queue.entries → i ≡ (old.outgoing + n) % 2 ^ 64 → after ≡ mid.queue.entries ++ Running i ∷ []
-    → KeepsNumbers numbers.with_number numbers.count mid.queue.set after mid.outgoing
-back_admitted {A = A} numbers old mid future i n after numbered admitted same long is now =
-    let fits : length old.queue.entries + 1 < 2 ^ 63 = let short = admitted.short in omega (arith, short) in
-    rw same (back_keeps numbers.with_number numbers.count old.queue.set mid.queue.set old.queue.entries old.outgoing i numbered admitted.went_in.numbers admitted.went_in.one_more fits n after long is (now ∙ ap (λ (l : List (Entry A)). l ++ Running i ∷ []) admitted.entries))
+-- a poll of the set gave an output with number i, and the entry of this number keeps it
+module _ {Q R A : Type 0} (with_number : ℕ → Q → ℕ) (count : Q → ℕ) (keeps : Q → Q → Type 0) (polls : NumberedPollsOf Q R A) (held new : Q) (cx left : Context) (o room i : ℕ) (x : A) (es : List (Option A)) (answer : Option (ℕ × A)) (is : answer ≡ Some (i, x))
+    (poll : PollsNumberedSet polls count with_number keeps held (Ready answer) new cx left) (word : o < 2 ^ 64) (short : length es < 2 ^ 63)
+    (numbered : IsNumbered with_number count (record { set = held; entries = numbered_from o es; room = room })) where
+  fewer : (n : ℕ) → with_number n new + one_at n i ≡ with_number n held
+  fewer n = subst (λ (a : Option (ℕ × A)). with_number n new + outputs_with n (Ready a) ≡ with_number n held) is (poll.numbers n)
 
--- the entry of a future that went into the set came before all others
-pub front_admitted : {F Q A : Type 0} (numbers : NumberedSetOf Q F) (old mid : Numbering Q A) (future : F) (i : ℕ) (after : List (Entry A))
-    → IsNumbered numbers.with_number numbers.count old → Admits numbers old.queue future i mid.queue → i ≡ (old.outgoing + (2 ^ 64 - 1)) % 2 ^ 64 → after ≡ Running i ∷ mid.queue.entries
-    → KeepsNumbers numbers.with_number numbers.count mid.queue.set after i
-front_admitted {A = A} numbers old mid future i after numbered admitted is now =
-    let fits : length old.queue.entries + 1 < 2 ^ 63 = let short = admitted.short in omega (arith, short) in
-    subst (λ (l : List (Entry A)). KeepsNumbers numbers.with_number numbers.count mid.queue.set l i) (sym (now ∙ ap (λ (l : List (Entry A)). Running i ∷ l) admitted.entries))
-    (KeepsNumbers-front numbers.with_number numbers.count old.queue.set mid.queue.set old.queue.entries old.outgoing i numbered admitted.went_in.numbers admitted.went_in.one_more fits is)
+  stands_at : slice_get (numbered_from o es) (place_of o i) ≡ Some (Running i)
+  stands_at =
+      let one : one_at i i ≡ 1 = ap (λ (b : Bool). cond b 1 0) (eq-eqb i i refl) in
+      let there = entry_with i (numbered_from o es) (omega (arith, numbered.as_many i, fewer i, one)) in
+      let found = running_at o there.0 i es there.1 in
+      let at = place_found o there.0 i word (omega (arith, found.0, short)) found.1 in
+      rw at there.1
 
--- what a push leaves whose future went into the set, once its entry is there
-module _ {F Q A : Type 0} (numbers : NumberedSetOf Q F) (old mid : Numbering Q A) (future : F) (i : ℕ) (after : List (Entry A))
-    (numbered : IsNumbered numbers.with_number numbers.count old) (admitted : Admits numbers old.queue future i mid.queue)
-    (some_room : QueueIsAtBound numbers.refuses old.queue → ⊥) where
-  pub pushes_back : (n : ℕ) → n ≡ length old.queue.entries → i ≡ (old.outgoing + n) % 2 ^ 64 → after ≡ mid.queue.entries ++ Running i ∷ []
-      → PushesOrHandsBack AddsBack numbers old.queue future (Ok tt) (record { set = mid.queue.set; entries = after; room = mid.queue.room })
-  pushes_back n long is now = record {
-    pushed = (i, record { unused = unused; pushed = admitted.went_in.went_in; room = admitted.room }, now ∙ ap (λ (l : List (Entry A)). l ++ Running i ∷ []) admitted.entries);
-    back = tt;
-    large = λ bound. absurd (some_room bound);
-    set = admitted.went_in.set;
+  pub kept_within : place_of o i < length es
+  kept_within = (running_at o (place_of o i) i es stands_at).0
+
+  pub kept_yields : starts_running (numbered_from o es) ≡ true → SetYields (BesideTask polls.gives) (record { set = (held, cx); entries = numbered_from o es; room = room }) (i, x) (record { set = (new, left); entries = numbered_from o (set es (place_of o i) (Some x)); room = room })
+  kept_yields runs = record {
+    front_runs = runs;
+    gave = subst (λ (a : Option (ℕ × A)). polls.gives held (Ready a) new cx left) is poll.gave;
+    at = place_of o i;
+    was_running = stands_at;
+    entries = numbered-set o (place_of o i) es x;
+    room = refl;
   }
-    where
-      unused : IsUnused i old.queue.entries
-      unused k there =
-          let within = slice_get_within old.queue.entries k (Running i) there in
-          let same = same_place old.outgoing k n i numbered.word (omega (arith, within, numbered.short)) (omega (arith, long, numbered.short)) (numbered.placed k i there) is in
-          absurd (omega (arith, within, same, long))
 
-  pub pushes_front : i ≡ (old.outgoing + (2 ^ 64 - 1)) % 2 ^ 64 → after ≡ Running i ∷ mid.queue.entries
-      → PushesOrHandsBack AddsFront numbers old.queue future (Ok tt) (record { set = mid.queue.set; entries = after; room = mid.queue.room })
-  pushes_front is now = record {
-    pushed = (i, record { unused = unused; pushed = admitted.went_in.went_in; room = admitted.room }, now ∙ ap (λ (l : List (Entry A)). Running i ∷ l) admitted.entries);
-    back = tt;
-    large = λ bound. absurd (some_room bound);
-    set = admitted.went_in.set;
-  }
-    where
-      unused : IsUnused i old.queue.entries
-      unused k there =
-          let within = slice_get_within old.queue.entries k (Running i) there in
-          let placed = numbered.placed k i there in
-          absurd (omega (arith, within, placed, is, numbered.short, numbered.word))
+  pub kept_is_numbered : IsNumbered with_number count (record { set = new; entries = numbered_from o (set es (place_of o i) (Some x)); room = room })
+  kept_is_numbered =
+      rw (numbered-set o (place_of o i) es x) (record {
+        as_many = λ n. omega (arith, numbered.as_many n, fewer n, runs-set n i (place_of o i) (numbered_from o es) x stands_at);
+        counted = let left : count_by is_running (set (numbered_from o es) (place_of o i) (Kept x)) + 1 ≡ count_by is_running (numbered_from o es) + 0 = count-set is_running i (place_of o i) (numbered_from o es) x stands_at in
+            let one : count new + 1 ≡ count held = subst (λ (a : Option (ℕ × A)). count new + outputs_in (Ready a) ≡ count held) is poll.fewer in
+            omega (arith, numbered.counted, one, left);
+      })
+
+-- a push that is refused changes nothing
+pub not_added : {F Q A : Type 0} (numbers : NumberedSetOf Q F) (adds : (Q → F → ℕ → Q → Type 0) → Ordered Q A → F → Ordered Q A → Type 0) (old new : Ordered Q A) (future back : F) (cap o : ℕ) (es : List (Option A))
+    → old.entries ≡ numbered_from o es → old.room ≤ cap → back ≡ future → new ≡ old → (cap ≤ length es) ⊎ numbers.may_refuse old.set → numbers.keeps old.set new.set → PushesOrHandsBack adds numbers old future (Err back) new
+not_added {A = A} numbers adds old new future back cap o es is room same stays refused keeps =
+    record { pushed = tt; back = record { same = same; stays = stays; may_refuse = may_refuse refused }; large = λ _. refl; set = keeps }
+  where
+    may_refuse : (cap ≤ length es) ⊎ numbers.may_refuse old.set → MayRefuse numbers.may_refuse old
+    may_refuse (inl full) = inl (omega (arith, full, room, numbered-length o es, ap (λ (l : List (Entry A)). length l) is))
+    may_refuse (inr may) = inr (inl may)
+
+-- a future went into the set with number i, and its entry was added
+module _ {F Q A : Type 0} (numbers : NumberedSetOf Q F) (old new : Ordered Q A) (future : F) (i : ℕ) (numbered : IsNumbered numbers.with_number numbers.count old)
+    (went_in : PushesInto numbers.pushes numbers.count numbers.with_number numbers.keeps old.set (record { future = future; number = i }) new.set) (room : new.room ≡ old.room) where
+  adding_keeps : ((p : Entry A → Bool) → count_by p new.entries ≡ count_by p old.entries + cond (p (Running i)) 1 0) → AddingKeeps numbers.with_number numbers.count numbers.keeps old new
+  adding_keeps added =
+      record {
+        set = went_in.set;
+        room = room;
+        numbered = record {
+          as_many = λ n. let more = added (runs_with n) in omega (arith, numbered.as_many n, went_in.numbers n, more);
+          counted = let more = added is_running in omega (arith, numbered.counted, went_in.one_more, more);
+        };
+      }
+
+  pushes : (adds : (Q → F → ℕ → Q → Type 0) → Ordered Q A → F → Ordered Q A → Type 0) → (QueueIsAtBound numbers.refuses old → ⊥) → adds numbers.pushes old future new → PushesOrHandsBack adds numbers old future (Ok tt) new
+  pushes adds some_room added = record { pushed = added; back = tt; large = λ bound. absurd (some_room bound); set = went_in.set }
+
+  module _ (o : ℕ) (es : List (Option A)) (was : old.entries ≡ numbered_from o es) (short : length es < 2 ^ 63) (bound : (length es ≡ MAX_LEN) ⊎ numbers.refuses old.set → ⊥) where
+    some_room : QueueIsAtBound numbers.refuses old → ⊥
+    some_room (inl long) = bound (inl (omega (arith, long, numbered-length o es, ap (λ (l : List (Entry A)). length l) was)))
+    some_room (inr refuses) = bound (inr refuses)
+
+    pub added_back : i ≡ (o + length es) % 2 ^ 64 → new.entries ≡ numbered_from o (es ++ None ∷ []) → PushesOrHandsBack AddsBack numbers old future (Ok tt) new × AddingKeeps numbers.with_number numbers.count numbers.keeps old new
+    added_back is now = (
+      pushes AddsBack some_room (i, record { unused = unused; pushed = went_in.went_in; room = room }, entries),
+      adding_keeps (λ p. ap (λ (l : List (Entry A)). count_by p l) entries ∙ sum_by_push (λ (e : Entry A). cond (p e) 1 0) old.entries (Running i)),
+    )
+      where
+        entries : new.entries ≡ old.entries ++ Running i ∷ []
+        entries = now ∙ numbered-append o es ∙ ap (λ (l : List (Entry A)). l ++ Running ((o + length es) % 2 ^ 64) ∷ []) (sym was) ∙ ap (λ n. old.entries ++ Running n ∷ []) (sym is)
+
+        unused : IsUnused i old.entries
+        unused k there = let at = running_at o k i es (rw (← was) there) in absurd (omega (arith, short, at.0, at.1, is))
+
+    pub added_front : i ≡ (o + (2 ^ 64 - 1)) % 2 ^ 64 → new.entries ≡ numbered_from i (None ∷ es) → PushesOrHandsBack AddsFront numbers old future (Ok tt) new × AddingKeeps numbers.with_number numbers.count numbers.keeps old new
+    added_front is now = (
+      pushes AddsFront some_room (i, record { unused = unused; pushed = went_in.went_in; room = room }, entries),
+      adding_keeps (λ p. let more = sum_by-cons (λ (e : Entry A). cond (p e) 1 0) (Running i) old.entries in omega (arith, ap (λ (l : List (Entry A)). count_by p l) entries, more)),
+    )
+      where
+        entries : new.entries ≡ Running i ∷ old.entries
+        entries = now ∙ ap (λ (l : List (Entry A)). Running (i % 2 ^ 64) ∷ l) (numbered-same (i + 1) o es (omega (arith, is)) ∙ sym was) ∙ ap (λ n. Running n ∷ old.entries) (omega (arith, is))
+
+        unused : IsUnused i old.entries
+        unused k there = let at = running_at o k i es (rw (← was) there) in absurd (omega (arith, short, at.0, at.1, is))

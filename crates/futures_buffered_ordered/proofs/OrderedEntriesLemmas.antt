@@ -11,9 +11,7 @@ use Rattle.futures.specs.Poll.{IfReady, OnPending}
 use Rattle.futures.specs.Runs.{Runs, After, Within, Chains, Leads, Ends}
 use Rattle.futures_buffered_unordered.specs.StreamAnswers.{StreamAnswers, stream_of}
 use Rattle.futures_buffered_unordered.proofs.StreamAnswersLemmas.{answers_of}
-use Rattle.futures_buffered_ordered.specs.OrderedEntries.{Ordered, AddsBack, AddsEachBack, AddsFront, SetYields, LastStep, OrderedGives, BesideTask, with_task, InTurn, EntryGives, ComesInOrder, IsUnused, runs_with, starts_running}
-use Rattle.futures_buffered_ordered.specs.declared.ordered_entries.Entry.{Entry}
-use Rattle.futures_buffered_ordered.specs.declared.ordered_entries.Entry.TheVariants.{Running, Kept}
+use Rattle.futures_buffered_ordered.specs.OrderedEntries.{Entry, Kept, Running, Ordered, AddsBack, AddsEachBack, AddsFront, SetYields, LastStep, OrderedGives, BesideTask, with_task, InTurn, EntryGives, ComesInOrder, IsUnused, runs_with, starts_running}
 use Rattle.futures_buffered_ordered.proofs.OrderedEntriesInvariantLemmas.{entry_with}
 
 -- one item more was added at the back

@@ -1,16 +1,13 @@
 -- The invariant of a bounded ordered queue. No public clause cites it.
 use Rattle.std.specs.Prelude.{◌^◌, ◌<◌, ◌≤◌}
 use Rattle.futures_buffered_core.specs.SlotMap.{slot_count}
-use Rattle.futures_buffered_unordered.specs.FuturesUnorderedBounded.{Bounded, held_in}
+use Rattle.futures_buffered_unordered.specs.FuturesUnorderedBounded.{held_in}
 use Rattle.futures_buffered_ordered.specs.Numbered.{held_with}
-use Rattle.futures_buffered_ordered.specs.OrderedEntriesInvariant.{Numbering, IsNumbered}
-use Rattle.futures_buffered_ordered.specs.declared.numbered.Numbered.{Numbered}
+use Rattle.futures_buffered_ordered.specs.OrderedEntriesInvariant.{IsNumbered}
+use Rattle.futures_buffered_ordered.specs.FuturesOrderedBounded.{OrderedBounded}
 
--- the numbers are in order, the list was made with a place for each slot, and there are fewer than 2^62 slots
-pub record KeepsBoundedQueue
-    {F A S : Type 0}
-    (q : Numbering (Bounded (Numbered F) S) A)
-    : Type 0 where
+-- the set holds the futures of the entries in progress, the list was made with a place for each slot, and there are fewer than 2^62 slots
+pub record KeepsBoundedQueue {F A S : Type 0} (q : OrderedBounded F A S) : Type 0 where
   pub numbered : IsNumbered held_with held_in q
-  pub fits : slot_count q.queue.set.slots ≤ q.queue.room
-  pub small : slot_count q.queue.set.slots < 2 ^ 62
+  pub fits : slot_count q.set.slots ≤ q.room
+  pub small : slot_count q.set.slots < 2 ^ 62

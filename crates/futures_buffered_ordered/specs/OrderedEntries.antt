@@ -13,9 +13,12 @@ use Rattle.futures_buffered_table.specs.declared.answer.NewFault.{NewFault}
 use Rattle.futures_buffered_table.specs.declared.answer.NewFault.TheVariants.{TooLarge}
 pub use Rattle.futures_buffered_ordered.specs.declared.numbered_set.NumberedSet.{Ghosts as NumberedSetOf}
 use Rattle.futures_buffered_ordered.specs.declared.numbered_polls.NumberedPolls.{Ghosts as NumberedPollsOf}
-use Rattle.futures_buffered_ordered.specs.declared.ordered_entries.Entry.{Entry}
-use Rattle.futures_buffered_ordered.specs.declared.ordered_entries.Entry.TheVariants.{Running, Kept}
 use Rattle.futures_buffered_ordered.specs.declared.ordered_entries.TheConstants.{MAX_LEN}
+
+-- an entry of a queue: its future is in progress, with this number, or its output waits for its turn
+pub data Entry (A : Type 0) : Type 0 where
+  Running : ℕ → Entry A
+  Kept : A → Entry A
 
 -- The set that holds the futures in progress, each with a number; the entries from the front to the back; and how many
 -- entries had a place when the queue was made. An entry in progress has the number of its future.
@@ -45,11 +48,15 @@ module _ {A : Type 0} where
   abbrev pub IsUnused : ℕ → List (Entry A) → Type 0
   IsUnused i entries = (k : ℕ) → slice_get entries k ≢ Some (Running i)
 
+  -- no two entries in progress have the same number
+  abbrev pub NoNumberTwice : List (Entry A) → Type 0
+  NoNumberTwice entries = (j k i : ℕ) → slice_get entries j ≡ Some (Running i) → slice_get entries k ≡ Some (Running i) → j ≡ k
+
 module _ {Q A : Type 0} where
   -- each entry in progress has a future of its own in the set, with its number, and the set holds no other future
   pub record EachHasOne (with_number : ℕ → Q → ℕ) (q : Ordered Q A) : Type 0 where
     pub as_many : (i : ℕ) → with_number i q.set ≡ count_by (runs_with i) q.entries
-    pub once : (j k i : ℕ) → slice_get q.entries j ≡ Some (Running i) → slice_get q.entries k ≡ Some (Running i) → j ≡ k
+    pub once : NoNumberTwice q.entries
 
   -- n is the length of a queue. Its set holds as many futures as `count` says, and as many with a number as
   -- `with_number` says.

@@ -132,7 +132,7 @@ impl<T: Drop, A: Drop, S: NewSource> Model for GrowingQueue<T, A, S> {
 
     ghost Value = { OrderedGrowing T A S };
 
-    ghost view = { λ q. q.queue.queue };
+    ghost view = { λ q. q.queue };
 
     ghost invariant = { λ q. IsNumbered held_in_groups_with held_in_groups q.queue };
 }

@@ -21,8 +21,8 @@ ghost use Rattle.futures_buffered_ordered.specs.FuturesOrderedBounded.{bounded_n
 use crate::numbered::{Numbered, PollNumbered};
 use crate::numbered_polls::NumberedPolls;
 use crate::numbered_set::{NumberedSet, PollNumberedSet};
+pub use crate::ordered_entries::MAX_LEN;
 use crate::ordered_entries::OrderedEntries;
-pub use crate::ordered_entries::{Entry, MAX_LEN};
 use futures::task::{Context, Poll};
 use futures_buffered_core::ready_core::{MAX_CAPACITY, NewFault, Woke};
 use futures_buffered_core::ready_shared::{SharedReady, SharedWaker};
@@ -129,7 +129,7 @@ impl<T: Drop, A: Drop, S: ReadySource> Model for BoundedQueue<T, A, S> {
 
     ghost Value = { OrderedBounded T A S };
 
-    ghost view = { λ q. q.queue.queue };
+    ghost view = { λ q. q.queue };
 
     ghost invariant = { λ q. KeepsBoundedQueue q.queue };
 }

@@ -2,19 +2,18 @@
 //!
 //! A push adds an entry at either end. A poll yields the output of the front alone: an output that comes before its
 //! turn is kept in its entry.
-ghost use Rattle.std.specs.Prelude.{◌≡◌, ◌↔◌, ◌<◌, ◌≤◌, ◌+◌, ℕ, [], ◌∷◌, length, true, false, IfOk, IfErr, OnOk, IsOk};
-ghost use Rattle.std.specs.Prelude.{IsErr, IsTrue, MatchOption};
+ghost use Rattle.std.specs.Prelude.{◌≡◌, ◌↔◌, ◌⊎◌, ◌<◌, ◌≤◌, ◌+◌, ℕ, [], ◌∷◌, length, true, false, IfOk, IfErr};
+ghost use Rattle.std.specs.Prelude.{IsErr, IsOk, IsTrue, MatchOption, OnErr, OnOk};
+ghost use Rattle.std.specs.VecDeque.{deque_capacity};
 ghost use Rattle.futures.specs.Poll.{IfReady, OnPending};
 ghost use Rattle.futures_buffered_core.specs.Drawn.{IsFiniteSource, items_of};
 ghost use Rattle.futures_buffered_unordered.specs.Extended.{Extends};
-ghost use Rattle.futures_buffered_ordered.specs.declared.ordered_entries.Entry.TheVariants.{Kept};
-ghost use Rattle.futures_buffered_ordered.specs.OrderedEntries.{AddsBack, AddsFront, BesideTask, HandsBack, LastStep};
-ghost use Rattle.futures_buffered_ordered.specs.OrderedEntries.{LeavesQueue, MayRefuse};
-ghost use Rattle.futures_buffered_ordered.specs.OrderedEntries.{PushesOrHandsBack, QueueIsAtBound, RefusesOne};
-ghost use Rattle.futures_buffered_ordered.specs.OrderedEntries.{SetYields, starts_running, with_task};
-ghost use Rattle.futures_buffered_ordered.specs.OrderedEntries.{without_entries};
-ghost use Rattle.futures_buffered_ordered.specs.OrderedEntriesInvariant.{AddingKeeps, Admits, CanPollEntries};
-ghost use Rattle.futures_buffered_ordered.specs.OrderedEntriesInvariant.{IsNumbered, PollsEntries};
+ghost use Rattle.futures_buffered_ordered.specs.Numbered.{PushesInto};
+ghost use Rattle.futures_buffered_ordered.specs.OrderedEntries.{AddsBack, AddsFront, BesideTask, Kept, LastStep};
+ghost use Rattle.futures_buffered_ordered.specs.OrderedEntries.{LeavesQueue, NoNumberTwice, PollsOrdered};
+ghost use Rattle.futures_buffered_ordered.specs.OrderedEntries.{PushesOrHandsBack, RefusesOne, SetYields};
+ghost use Rattle.futures_buffered_ordered.specs.OrderedEntries.{starts_running, with_task, without_entries};
+ghost use Rattle.futures_buffered_ordered.specs.OrderedEntriesInvariant.{AddingKeeps, IsNumbered};
 
 use crate::numbered::Numbered;
 use crate::numbered_set::{NumberedSet, PollNumberedSet};
@@ -26,26 +25,18 @@ use std::marker::Model;
 /// How many entries a queue has, at most.
 pub const MAX_LEN: usize = usize::MAX / 2;
 
-/// An entry of a queue: its future is in progress, or is done and its output is kept.
-#[derive(Drop)]
-pub enum Entry<A> {
-    /// The future is in progress, and has this number.
-    Running(usize),
-    /// The output, which waits for its turn.
-    Kept(A),
-}
-
 /// A set of numbered futures, and the list of entries over it.
 ///
-/// A contract sees the set, the entries from the front to the back, and the number of the front. It also sees how many
-/// entries had a place when the queue was made, and how many have one now. The ordered queues are made of this type.
-/// Pushes and polls require that the numbers are in order, and leave them so. The numbers of a new value over an empty
-/// set are in order.
+/// A contract sees the set, the entries from the front to the back, and how many entries had a place when the queue was
+/// made. An entry in progress has the number of its future, which only the contract sees. The ordered queues are made
+/// of this type. Pushes and polls require that the futures of the set are those of the entries in progress, and leave
+/// them so.
 #[derive(Drop)]
 pub struct OrderedEntries<Q: Drop, A: Drop> {
     /// The set that holds the futures in progress.
     pub set: Q,
-    entries: VecDeque<Entry<A>>,
+    // The output of each entry that keeps one. An entry in progress has none.
+    entries: VecDeque<Option<A>>,
     // How many entries had a place when the queue was made. There may be places for more by now.
     room: usize,
     // The number of the front. Numbers rise by one from entry to entry, and wrap: only their differences count. There
@@ -56,18 +47,15 @@ pub struct OrderedEntries<Q: Drop, A: Drop> {
 impl<Q: Drop, A: Drop> Model for OrderedEntries<Q, A> {
     ghost use Rattle.std.specs.Prelude.{◌≤◌};
     ghost use Rattle.std.specs.VecDeque.{deque_capacity};
-    ghost use Rattle.futures_buffered_ordered.specs.OrderedEntriesInvariant.{Numbering};
+    ghost use Rattle.futures_buffered_ordered.specs.OrderedEntries.{Ordered};
+    ghost use Rattle.futures_buffered_ordered.specs.OrderedEntriesInvariant.{numbered_from};
 
-    ghost Value = { Numbering Q A };
+    ghost Value = { Ordered Q A };
 
     ghost view = { λ q. record {
-      queue = record {
-        set = q.set;
-        entries = q.entries.items;
-        room = q.room;
-      };
-      places = deque_capacity q.entries;
-      outgoing = q.outgoing;
+      set = q.set;
+      entries = numbered_from q.outgoing q.entries.items;
+      room = q.room;
     } };
 
     ghost invariant = { λ q. q.room ≤ deque_capacity q.entries };
@@ -76,9 +64,8 @@ impl<Q: Drop, A: Drop> Model for OrderedEntries<Q, A> {
 impl<Q: Drop, A: Drop> OrderedEntries<Q, A> {
     /// Makes a queue without entries over this set. Does not allocate.
     pub fn new(alloc: Global, set: Q) -> Self
-        ensures set { result.queue.set ≡ set }
-        ensures entries { result.queue.entries ≡ [] }
-        ensures first { result.outgoing ≡ 0 }
+        ensures set { result.set ≡ set }
+        ensures entries { result.entries ≡ [] }
     {
         OrderedEntries {
             set,
@@ -90,10 +77,9 @@ impl<Q: Drop, A: Drop> OrderedEntries<Q, A> {
 
     /// As `new`, with a place for `room` entries. Allocates in proportion to `room`, and not at all if it is 0.
     pub fn with_room(alloc: Global, set: Q, room: usize) -> Result<Self, AllocError>
-        ensures set { IfOk result (λ made. made.queue.set ≡ set) }
-        ensures entries { IfOk result (λ made. made.queue.entries ≡ []) }
-        ensures room { IfOk result (λ made. room ≤ made.queue.room) }
-        ensures first { IfOk result (λ made. made.outgoing ≡ 0) }
+        ensures set { IfOk result (λ made. made.set ≡ set) }
+        ensures entries { IfOk result (λ made. made.entries ≡ []) }
+        ensures room { IfOk result (λ made. room ≤ made.room) }
         ensures none { room ≡ 0 → IsOk result }
     {
         let entries = VecDeque::with_capacity(alloc, room)?;
@@ -107,78 +93,68 @@ impl<Q: Drop, A: Drop> OrderedEntries<Q, A> {
 
     /// The number of entries, in progress and kept.
     pub fn len(&self) -> usize
-        ensures { result ≡ length self.now.queue.entries }
+        ensures value { result ≡ length self.now.entries }
+        ensures once { NoNumberTwice self.now.entries }
     {
         self.entries.len()
     }
 
     /// Whether there is no entry.
     pub fn is_empty(&self) -> bool
-        ensures { IsTrue result ↔ (length self.now.queue.entries ≡ 0) }
+        ensures { IsTrue result ↔ (length self.now.entries ≡ 0) }
     {
-        self.entries.is_empty()
+        self.len() == 0
     }
 
     /// Drops each entry, with the output that it keeps. The set stays, so the caller has to remove the futures in
     /// progress. There is a place for as many entries as before. Does not allocate.
     pub fn drop_entries(&mut self)
-        ensures queue { self.new.queue ≡ without_entries self.old.queue.set self.old.queue }
-        ensures first { self.new.outgoing ≡ 0 }
+        ensures queue { self.new ≡ without_entries self.old.set self.old }
     {
         self.entries.clear();
-        self.outgoing = 0;
     }
 
     fn front_runs(&self) -> bool
-        ensures { result ≡ starts_running self.now.queue.entries }
+        ensures { result ≡ starts_running self.now.entries }
     {
         match self.entries.front() {
-            Some(Entry::Running(_)) => true,
+            Some(None) => true,
             _ => false,
         }
     }
 }
 
+// Makes a place for one more entry, and pushes the future into the set, with this number. The caller adds the entry. If
+// there is no place, or if the set refuses the future, returns the future. Does not allocate if the set refuses all
+// pushes.
+fn admit<Q: NumberedSet, E: Drop>(
+    set: &mut Q,
+    entries: &mut VecDeque<E>,
+    future: Q::Future,
+    number: usize,
+) -> Result<(), Q::Future>
+    requires held { Q.takes set.old }
+    requires fit { Q.is_fit future }
+    ensures pushed { OnOk result (PushesInto Q.pushes Q.count Q.with_number Q.keeps
+        set.old (record { future = future; number = number }) set.new) }
+    ensures place { OnOk result (length entries.new.items < deque_capacity entries.new) }
+    ensures back { IfErr result (λ back. (back ≡ future) × (set.new ≡ set.old)) }
+    ensures refused { OnErr result ((deque_capacity entries.old ≤ length entries.old.items) ⊎ Q.may_refuse set.old) }
+    ensures large { (length entries.old.items ≡ MAX_LEN) ⊎ Q.refuses set.old → IsErr result }
+    ensures same { entries.new.items ≡ entries.old.items }
+    ensures grown { deque_capacity entries.old ≤ deque_capacity entries.new }
+    ensures again { Q.takes set.new }
+{
+    if entries.len() == entries.capacity() && (set.refuses_all() || entries.reserve(1).is_err()) {
+        return Err(future);
+    }
+    match set.push_numbered(Numbered { future, number }) {
+        Ok(()) => Ok(()),
+        Err(back) => Err(back.future),
+    }
+}
+
 impl<Q: NumberedSet, A: Drop> OrderedEntries<Q, A> {
-    // Makes a place for one more entry, and returns whether there is one. Does not allocate if the set refuses all
-    // pushes.
-    fn reserve_entry(&mut self) -> bool
-        ensures queue { self.new.queue ≡ self.old.queue }
-        ensures same { self.new.outgoing ≡ self.old.outgoing }
-        ensures place { result ≡ true → length self.old.queue.entries < self.new.places }
-        ensures short { result ≡ true → length self.old.queue.entries < MAX_LEN }
-        ensures none { result ≡ false → MayRefuse Q.may_refuse self.old.queue }
-    {
-        let len = self.entries.len();
-        if len == MAX_LEN || (len == self.entries.capacity() && self.set.refuses_all()) {
-            return false;
-        }
-        self.entries.reserve(1).is_ok()
-    }
-
-    // Makes a place for one more entry, and pushes the future into the set, with this number. The caller adds the
-    // entry. If there is no place, or if the set refuses the future, returns the future.
-    fn admit(&mut self, future: Q::Future, number: usize) -> Result<(), Q::Future>
-        requires held { Q.takes self.old.queue.set }
-        requires fit { Q.is_fit future }
-        ensures admitted { OnOk result (Admits Q.NumberedSet
-            self.old.queue future number self.new.queue) }
-        ensures place { OnOk result (length self.new.queue.entries < self.new.places) }
-        ensures back { IfErr result (λ back. HandsBack Q.may_refuse
-            self.old.queue future back self.new.queue) }
-        ensures large { QueueIsAtBound Q.refuses self.old.queue → IsErr result }
-        ensures same { self.new.outgoing ≡ self.old.outgoing }
-        ensures again { Q.takes self.new.queue.set }
-    {
-        if !self.reserve_entry() {
-            return Err(future);
-        }
-        match self.set.push_numbered(Numbered { future, number }) {
-            Ok(()) => Ok(()),
-            Err(back) => Err(back.future),
-        }
-    }
-
     /// Adds the future after all others, in progress, with the next number.
     ///
     /// Returns the future, and changes nothing, if the queue has `MAX_LEN` entries, if the set refuses the future, or
@@ -186,33 +162,31 @@ impl<Q: NumberedSet, A: Drop> OrderedEntries<Q, A> {
     /// set does.
     pub fn add_back(&mut self, future: Q::Future) -> Result<(), Q::Future>
         requires numbered { IsNumbered Q.with_number Q.count self.old }
-        requires held { Q.takes self.old.queue.set }
+        requires held { Q.takes self.old.set }
         requires fit { Q.is_fit future }
-        ensures push { PushesOrHandsBack AddsBack Q.NumberedSet
-            self.old.queue future result self.new.queue }
+        ensures push { PushesOrHandsBack AddsBack Q.NumberedSet self.old future result self.new }
         ensures keeps { AddingKeeps Q.with_number Q.count Q.keeps self.old self.new }
-        ensures again { Q.takes self.new.queue.set }
+        ensures again { Q.takes self.new.set }
     {
         let number = self.outgoing.wrapping_add(self.entries.len());
-        self.admit(future, number)?;
-        self.entries.push_back_reserved(Entry::Running(number));
+        admit(&mut self.set, &mut self.entries, future, number)?;
+        self.entries.push_back_reserved(None);
         Ok(())
     }
 
     /// As `add_back`, before all others: the queue yields its output next.
     pub fn add_front(&mut self, future: Q::Future) -> Result<(), Q::Future>
         requires numbered { IsNumbered Q.with_number Q.count self.old }
-        requires held { Q.takes self.old.queue.set }
+        requires held { Q.takes self.old.set }
         requires fit { Q.is_fit future }
-        ensures push { PushesOrHandsBack AddsFront Q.NumberedSet
-            self.old.queue future result self.new.queue }
+        ensures push { PushesOrHandsBack AddsFront Q.NumberedSet self.old future result self.new }
         ensures keeps { AddingKeeps Q.with_number Q.count Q.keeps self.old self.new }
-        ensures again { Q.takes self.new.queue.set }
+        ensures again { Q.takes self.new.set }
     {
         let number = self.outgoing.wrapping_sub(1);
-        self.admit(future, number)?;
+        admit(&mut self.set, &mut self.entries, future, number)?;
         self.outgoing = number;
-        self.entries.push_front_reserved(Entry::Running(number));
+        self.entries.push_front_reserved(None);
         Ok(())
     }
 
@@ -222,10 +196,10 @@ impl<Q: NumberedSet, A: Drop> OrderedEntries<Q, A> {
     pub fn extend<I: IntoIterator<Item = Q::Future>>(&mut self, iter: I) -> Result<(), Q::Future>
         requires finite { IsFiniteSource (items_of I.IntoIterator I.IntoIter.Iterator iter) }
         requires numbered { IsNumbered Q.with_number Q.count self.old }
-        requires held { Q.takes self.old.queue.set }
+        requires held { Q.takes self.old.set }
         requires fit { (future : Q.Future) → Q.is_fit future }
         ensures extends { Extends (items_of I.IntoIterator I.IntoIter.Iterator iter) (AddsBack Q.pushes)
-            (RefusesOne Q.may_refuse) self.old.queue result self.new.queue }
+            (RefusesOne Q.may_refuse) self.old result self.new }
         ensures keeps { AddingKeeps Q.with_number Q.count Q.keeps self.old self.new }
     {
         for item in iter {
@@ -236,22 +210,21 @@ impl<Q: NumberedSet, A: Drop> OrderedEntries<Q, A> {
 
     // Removes the front and returns its output. Returns `None` if there is no entry.
     fn pop_kept(&mut self) -> Option<A>
-        requires kept { starts_running self.old.queue.entries ≡ false }
+        requires kept { starts_running self.old.entries ≡ false }
         requires numbered { IsNumbered Q.with_number Q.count self.old }
         ensures front { MatchOption result
-            ((self.old.queue.entries ≡ []) × (self.new.queue ≡ self.old.queue))
-            (λ x. (self.old.queue.entries ≡ Kept x ∷ self.new.queue.entries)
-            × (self.new.queue.room ≡ self.old.queue.room)) }
-        ensures set { self.new.queue.set ≡ self.old.queue.set }
+            ((self.old.entries ≡ []) × (self.new ≡ self.old))
+            (λ x. (self.old.entries ≡ Kept x ∷ self.new.entries) × (self.new.room ≡ self.old.room)) }
+        ensures set { self.new.set ≡ self.old.set }
         ensures numbered { IsNumbered Q.with_number Q.count self.new }
     {
         match self.entries.pop_front() {
             None => None,
-            Some(Entry::Kept(output)) => {
+            Some(None) => unreachable!(),
+            Some(Some(output)) => {
                 self.outgoing = self.outgoing.wrapping_add(1);
                 Some(output)
             }
-            Some(Entry::Running(_)) => unreachable!(),
         }
     }
 
@@ -259,17 +232,15 @@ impl<Q: NumberedSet, A: Drop> OrderedEntries<Q, A> {
     fn keep_next<R>(&mut self, rule: &R, cx: &mut Context<'_>) -> Poll<()>
     where
         Q: PollNumberedSet<R, Output = A>,
-        requires can { CanPollEntries Q.can_poll Q.with_number Q.count self.old }
-        requires runs { starts_running self.old.queue.entries ≡ true }
-        ensures gave { IfReady result (λ _. (out : ℕ × A)
-            × SetYields (BesideTask Q.gives)
-            (with_task self.old.queue cx.old) out (with_task self.new.queue cx.new)) }
+        requires can { Q.can_poll self.old.set }
+        requires numbered { IsNumbered Q.with_number Q.count self.old }
+        requires runs { starts_running self.old.entries ≡ true }
+        ensures gave { IfReady result (λ _. (out : ℕ × A) × SetYields (BesideTask Q.gives)
+            (with_task self.old cx.old) out (with_task self.new cx.new)) }
         ensures waits { OnPending result (LastStep (BesideTask Q.gives)
-            (with_task self.old.queue cx.old) Poll.Pending (with_task self.new.queue cx.new)) }
-        ensures fewer { IfReady result (λ _.
-            Q.count self.new.queue.set + 1 ≡ Q.count self.old.queue.set) }
-        ensures queue { LeavesQueue Q.count Q.keeps Q.NumberedPolls
-            self.old.queue result self.new.queue cx.old cx.new }
+            (with_task self.old cx.old) Poll.Pending (with_task self.new cx.new)) }
+        ensures fewer { IfReady result (λ _. Q.count self.new.set + 1 ≡ Q.count self.old.set) }
+        ensures queue { LeavesQueue Q.count Q.keeps Q.NumberedPolls self.old result self.new cx.old cx.new }
         ensures numbered { IsNumbered Q.with_number Q.count self.new }
     {
         match self.set.poll_numbered(rule, cx) {
@@ -277,7 +248,7 @@ impl<Q: NumberedSet, A: Drop> OrderedEntries<Q, A> {
             Poll::Ready(None) => unreachable!(),
             Poll::Ready(Some((number, output))) => {
                 let place = number.wrapping_sub(self.outgoing);
-                self.entries[place] = Entry::Kept(output);
+                self.entries[place] = Some(output);
                 Poll::Ready(())
             }
         }
@@ -294,9 +265,10 @@ impl<Q: NumberedSet, A: Drop> OrderedEntries<Q, A> {
     pub fn poll_entries<R>(&mut self, rule: &R, cx: &mut Context<'_>) -> Poll<Option<A>>
     where
         Q: PollNumberedSet<R, Output = A>,
-        requires { CanPollEntries Q.can_poll Q.with_number Q.count self.old }
-        ensures { PollsEntries Q.with_number Q.count Q.keeps Q.NumberedPolls
-            self.old result self.new cx.old cx.new }
+        requires can { Q.can_poll self.old.set }
+        requires numbered { IsNumbered Q.with_number Q.count self.old }
+        ensures polls { PollsOrdered Q.count Q.keeps Q.NumberedPolls self.old result self.new cx.old cx.new }
+        ensures numbered { IsNumbered Q.with_number Q.count self.new }
     {
         while self.front_runs() {
             match self.keep_next(rule, cx) {

@@ -11,5 +11,5 @@ returns g c =
     let fewer = free (search rules) in
     let push = c.add_back.ensures.push in
     rw (← c.self.view_is)
-    (pushed g.F.Future g.K.Kind.GROWS AddsBack (λ gives runs. Chains runs (Leads gives Ends)) old c.args.future c.self.invariant c.add_back.new.self.queue c.add_back.result fewer
-    (enters_back g.F.Future g.K.Kind.GROWS old c.add_back.new.self.queue c.args.future c.self.invariant.numbered) push.pushed push.back push.large c.add_back.ensures.again)
+    (pushed g.F.Future g.K.Kind.GROWS AddsBack (λ gives runs. Chains runs (Leads gives Ends)) old c.args.future c.self.invariant c.add_back.new.self c.add_back.result fewer
+    (enters_back g.F.Future g.K.Kind.GROWS old c.add_back.new.self c.args.future c.self.invariant.numbered) push.pushed push.back push.large c.add_back.ensures.again)

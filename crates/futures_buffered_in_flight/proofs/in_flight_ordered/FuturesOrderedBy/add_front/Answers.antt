@@ -11,5 +11,5 @@ returns g c =
     let fewer = free (search rules) in
     let push = c.add_front.ensures.push in
     rw (← c.self.view_is)
-    (pushed g.F.Future g.K.Kind.GROWS AddsFront Leads old c.args.future c.self.invariant c.add_front.new.self.queue c.add_front.result fewer
-    (enters_front g.F.Future g.K.Kind.GROWS old c.add_front.new.self.queue c.args.future c.self.invariant.numbered) push.pushed push.back push.large c.add_front.ensures.again)
+    (pushed g.F.Future g.K.Kind.GROWS AddsFront Leads old c.args.future c.self.invariant c.add_front.new.self c.add_front.result fewer
+    (enters_front g.F.Future g.K.Kind.GROWS old c.add_front.new.self c.args.future c.self.invariant.numbered) push.pushed push.back push.large c.add_front.ensures.again)

@@ -9,7 +9,7 @@ pub invariant_of-result : goal.invariant_of-result
 invariant_of-result g c =
     let made = c.in_ok-queue.ensures in
     let set = c.in_ok-set.ensures.made in
-    new_keeps g.K.Kind.GROWS c.in_ok-queue.queue c.in_ok-set.set c.args.n c.requires set.made made.set made.entries made.first (λ _. (made.room, omega (arith, set.refuses.fits)))
+    new_keeps g.K.Kind.GROWS c.in_ok-queue.queue c.in_ok-set.set c.args.n c.requires set.made made.set made.entries (λ _. (made.room, omega (arith, set.refuses.fits)))
 
 pub returns-clause-made : goal.returns-clause-made
 returns-clause-made g c =

@@ -1,4 +1,4 @@
-use Rattle.std.proofs.Common.{ap}
+use Rattle.std.proofs.Common.{ap, ◌∙◌}
 use Rattle.futures_buffered_core.specs.ReadyShared.{Shared}
 use Rattle.futures_buffered_unordered.specs.FuturesUnordered.{Growing}
 use Rattle.futures_buffered_ordered.specs.FuturesOrdered.{held_in_groups, held_in_groups_with}
@@ -9,6 +9,7 @@ use Rattle.futures_buffered_ordered.proofs.futures_ordered.GrowingQueue+T+A+Shar
 pub invariant_of-result : goal.invariant_of-result
 invariant_of-result g c =
     let made = c.new-2.ensures in
-    new_is_numbered held_in_groups_with held_in_groups c.new-2.result c.new.result made.set made.entries made.first
-    (λ n. ap (λ (v : Growing (Numbered g.row.T.Denot) Shared). held_in_groups_with n v) c.new.ensures)
-    (ap (λ (v : Growing (Numbered g.row.T.Denot) Shared). held_in_groups v) c.new.ensures)
+    let empty = made.set ∙ c.new.ensures in
+    new_is_numbered held_in_groups_with held_in_groups c.new-2.result made.entries
+    (λ n. ap (λ (v : Growing (Numbered g.row.T.Denot) Shared). held_in_groups_with n v) empty)
+    (ap (λ (v : Growing (Numbered g.row.T.Denot) Shared). held_in_groups v) empty)

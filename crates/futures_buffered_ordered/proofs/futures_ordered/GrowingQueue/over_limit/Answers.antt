@@ -11,7 +11,7 @@ invariant_of-result g c =
     let set = c.in_ok-set.set in
     let empty = c.in_ok-set.ensures.made in
     let made = c.in_ok-queue.ensures in
-    new_is_numbered held_in_groups_with held_in_groups c.in_ok-queue.queue set made.set made.entries made.first (new_numbers g.S.NewSource.made c.args.n _ set empty) (new_held g.S.NewSource.made c.args.n _ set empty)
+    new_is_numbered held_in_groups_with held_in_groups c.in_ok-queue.queue made.entries (rw made.set (new_numbers g.S.NewSource.made c.args.n _ set empty)) (rw made.set (new_held g.S.NewSource.made c.args.n _ set empty))
 
 pub returns : goal.returns
 returns g c =

@@ -1,8 +1,6 @@
 use Rattle.std.proofs.Common.{◌∙◌, ap, sym, subst}
-use Rattle.futures_buffered_unordered.specs.FuturesUnorderedBounded.{Bounded}
-use Rattle.futures_buffered_ordered.specs.OrderedEntriesInvariant.{Numbering}
+use Rattle.futures_buffered_ordered.specs.FuturesOrderedBounded.{OrderedBounded}
 use Rattle.futures_buffered_ordered.specs.FuturesOrderedBoundedInvariant.{KeepsBoundedQueue}
-use Rattle.futures_buffered_ordered.specs.declared.numbered.Numbered.{Numbered}
 use Rattle.futures_buffered_ordered.proofs.FuturesOrderedBoundedLemmas.{marked_keeps}
 use Rattle.futures_buffered_ordered.proofs.futures_ordered_bounded.BoundedQueue.mark_slot.Goals as goal
 
@@ -10,7 +8,6 @@ pub invariant_of-self : goal.invariant_of-self
 invariant_of-self g c =
     let marked = c.mark_slot.new.self in
     let is = ap (λ q. q.queue) c.self-inside.view_is in
-    let same = c.mark_slot.ensures.slots ∙ ap (λ (q : Numbering (Bounded (Numbered g.row.T.Denot) g.row.S.Denot) g.row.A.Denot). q.queue.set.slots) is in
-    subst
-    (λ (q : Numbering (Bounded (Numbered g.row.T.Denot) g.row.S.Denot) g.row.A.Denot). KeepsBoundedQueue (record { queue = record { set = marked; entries = q.queue.entries; room = q.queue.room }; places = q.places; outgoing = q.outgoing }))
-    (sym is) (marked_keeps c.self.inside.queue marked same c.self.invariant)
+    let same = c.mark_slot.ensures.slots ∙ ap (λ (q : OrderedBounded g.row.T.Denot g.row.A.Denot g.row.S.Denot). q.set.slots) is in
+    subst (λ (q : OrderedBounded g.row.T.Denot g.row.A.Denot g.row.S.Denot). KeepsBoundedQueue (record { set = marked; entries = q.entries; room = q.room })) (sym is)
+    (marked_keeps c.self.inside.queue marked same c.self.invariant)

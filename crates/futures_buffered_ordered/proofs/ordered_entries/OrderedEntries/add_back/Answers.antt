@@ -1,36 +1,25 @@
 use Rattle.std.proofs.lemmas.Grind.{common_steps}
-use Rattle.std.proofs.Common.{rules, ◌≡◌, ◌+◌, ◌++◌, [], ◌∷◌, ◌%◌, ◌^◌, length, Ok, sym, subst, ap, arith, ◌∙◌}
-use Rattle.futures_buffered_ordered.specs.OrderedEntries.{AddsBack, PushesOrHandsBack}
-use Rattle.futures_buffered_ordered.specs.OrderedEntriesInvariant.{KeepsNumbers, Numbering}
-use Rattle.futures_buffered_ordered.specs.declared.ordered_entries.Entry.TheVariants.{Running}
-use Rattle.futures_buffered_ordered.proofs.OrderedEntriesInvariantLemmas.{back_admitted, pushes_back}
+use Rattle.std.proofs.Common.{rules, ◌≡◌, ◌+◌, ◌++◌, [], ◌∷◌, ◌%◌, ◌^◌, List, Option, None, length, refl, ap, arith, ◌∙◌}
+use Rattle.std.proofs.lemmas.Result.{err_from_is_err_and}
+use Rattle.std.specs.VecDeque.{deque_capacity}
+use Rattle.futures_buffered_ordered.specs.OrderedEntries.{AddsBack}
+use Rattle.futures_buffered_ordered.specs.OrderedEntriesInvariant.{numbered_from}
+use Rattle.futures_buffered_ordered.proofs.OrderedEntriesInvariantLemmas.{added_back, not_added}
 use Rattle.futures_buffered_ordered.proofs.ordered_entries.OrderedEntries.add_back.Goals as goal
 
-pub returns-clause-keeps : goal.returns-clause-keeps
-returns-clause-keeps g c =
-    let set = g.Q.NumberedSet in
-    let old = c.args.self.now in
-    let mid = c.admit.new.self in
-    let after = c.push_back_reserved.new.self.items in
-    let number = (c.self.inside.outgoing + c.len.result) % 2 ^ 64 in
-    let long : c.len.result ≡ length old.queue.entries = grind (arith, common_steps) in
-    let is : number ≡ (old.outgoing + c.len.result) % 2 ^ 64 = ap (λ (v : Numbering g.row.Q.Denot g.row.A.Denot). (v.outgoing + c.len.result) % 2 ^ 64) c.self.view_is in
-    let now : after ≡ mid.queue.entries ++ Running number ∷ [] = c.push_back_reserved.ensures.items ∙ ap (λ (v : Numbering g.row.Q.Denot g.row.A.Denot). v.queue.entries ++ Running number ∷ []) c.self-2.view_is in
-    record {
-      set = search rules;
-      room = search rules;
-      numbered = subst (λ (v : Numbering g.row.Q.Denot g.row.A.Denot). KeepsNumbers set.with_number set.count v.queue.set after v.outgoing) (sym c.self-2.view_is)
-          (back_admitted set old mid c.args.future number c.len.result after c.requires.numbered c.in_ok-admit.ensures.admitted c.in_ok-admit.ensures.same long is now);
-    }
+pub returns-in_err-admit-clause-push : goal.returns-in_err-admit-clause-push
+returns-in_err-admit-clause-push g c =
+    let queue = c.self.inside in
+    let refused = c.in_err-admit.ensures in
+    let is_err = err_from_is_err_and c.from_residual.result c.from_residual.ensures.1 in
+    rw (← c.self.view_is, is_err.1, is_err.2) (not_added g.Q.NumberedSet AddsBack _ _ c.args.future _ (deque_capacity queue.entries) queue.outgoing queue.entries.items refl c.self.invariant refused.back.0 (rw (refused.back.1, refused.same) refl) refused.refused (rw refused.back.1 (g.met.Q.NumberedSet.keeps_self _)))
 
-pub returns-clause-push : goal.returns-clause-push
-returns-clause-push g c =
-    let old = c.args.self.now in
-    let mid = c.admit.new.self in
-    let after = c.push_back_reserved.new.self.items in
-    let number = (c.self.inside.outgoing + c.len.result) % 2 ^ 64 in
-    let long : c.len.result ≡ length old.queue.entries = grind (arith, common_steps) in
-    let is : number ≡ (old.outgoing + c.len.result) % 2 ^ 64 = ap (λ (v : Numbering g.row.Q.Denot g.row.A.Denot). (v.outgoing + c.len.result) % 2 ^ 64) c.self.view_is in
-    let now : after ≡ mid.queue.entries ++ Running number ∷ [] = c.push_back_reserved.ensures.items ∙ ap (λ (v : Numbering g.row.Q.Denot g.row.A.Denot). v.queue.entries ++ Running number ∷ []) c.self-2.view_is in
-    subst (λ (v : Numbering g.row.Q.Denot g.row.A.Denot). PushesOrHandsBack AddsBack g.Q.NumberedSet old.queue c.args.future (Ok tt) (record { set = v.queue.set; entries = after; room = v.queue.room })) (sym c.self-2.view_is)
-    (pushes_back g.Q.NumberedSet old mid c.args.future number after c.requires.numbered c.in_ok-admit.ensures.admitted (λ bound. absurd (search (rules, c.in_ok-admit.ensures.large bound))) c.len.result long is now)
+pub returns : goal.returns
+returns g c =
+    let queue = c.self.inside in
+    let items = queue.entries.items in
+    let is : (queue.outgoing + c.len.result) % 2 ^ 64 ≡ (queue.outgoing + length items) % 2 ^ 64 = grind (arith, common_steps) in
+    let now : c.push_back_reserved.new.self.items ≡ items ++ None ∷ [] = c.push_back_reserved.ensures.items ∙ ap (λ (l : List (Option g.row.A.Denot)). l ++ None ∷ []) c.in_ok-admit.ensures.same in
+    let numbered = rw (← c.self.view_is) at c.requires.numbered in
+    let both = added_back g.Q.NumberedSet _ _ c.args.future _ numbered c.in_ok-admit.ensures.pushed refl queue.outgoing items refl (omega (arith, queue.entries.ok.0, queue.entries.small.0, queue.entries.small.1)) (λ bound. absurd (search (rules, c.in_ok-admit.ensures.large bound))) is (ap (λ l. numbered_from queue.outgoing l) now) in
+    rw (← c.self.view_is) (record { push = both.0; keeps = both.1; again = c.in_ok-admit.ensures.again })

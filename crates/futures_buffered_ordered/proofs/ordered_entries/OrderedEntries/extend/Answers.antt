@@ -7,13 +7,13 @@ use Rattle.futures_buffered_ordered.proofs.ordered_entries.OrderedEntries.extend
 pub returns-in_err-add_back-clause-extends : goal.returns-in_err-add_back-clause-extends
 returns-in_err-add_back-clause-extends g c =
     let back = c.in_err-add_back.ensures.push.back in
-    let stops : ExtendsUntil (items_of g.I.IntoIterator g.I.IntoIter.Iterator c.args.iter) (AddsBack g.Q.NumberedSet.pushes) (RefusesOne g.Q.NumberedSet.may_refuse) c.args.self.now.queue c.in-Some.item c.add_back.new.self.queue = record {
+    let stops : ExtendsUntil (items_of g.I.IntoIterator g.I.IntoIter.Iterator c.args.iter) (AddsBack g.Q.NumberedSet.pushes) (RefusesOne g.Q.NumberedSet.may_refuse) c.args.self.now c.in-Some.item c.add_back.new.self = record {
       items = c.loop-item.yielded;
       it = c.into_iter-item-iterator.result;
       rest = c.next.new.self;
       begins = search rules;
       came = search rules;
-      stopped = c.loop-item.self.queue;
+      stopped = c.loop-item.self;
       added = c.loop-item.invariant.2;
       refused = (back.may_refuse, back.stays);
     } in

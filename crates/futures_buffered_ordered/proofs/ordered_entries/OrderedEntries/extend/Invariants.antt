@@ -7,6 +7,6 @@ invariant-loop-item g l =
     let set = g.Q.NumberedSet in
     (goal.iterator-loop-item g).can_next l.item-iterator
     × (goal.iterator-loop-item g).is_finite l.item-iterator
-    × AddsEachBack set.pushes l.fn.self.queue l.yielded l.self.queue
+    × AddsEachBack set.pushes l.fn.self l.yielded l.self
     × AddingKeeps set.with_number set.count set.keeps l.fn.self l.self
-    × set.takes l.self.queue.set
+    × set.takes l.self.set

@@ -13,7 +13,7 @@ loop-self-preserved g c =
     record {
       row = (
         so_far.0 ++ out ∷ [],
-        FoldsTo-push (SetYields (BesideTask g.Q.NumberedPolls.gives)) (with_task c.args.self.now.queue c.args.cx.now) so_far.0 (with_task c.loop-self.self.queue c.loop-self.cx) out (with_task c.keep_next.new.self.queue c.keep_next.new.cx) so_far.1 c.in-Ready.ensures.gave.1,
+        FoldsTo-push (SetYields (BesideTask g.Q.NumberedPolls.gives)) (with_task c.args.self.now c.args.cx.now) so_far.0 (with_task c.loop-self.self c.loop-self.cx) out (with_task c.keep_next.new.self c.keep_next.new.cx) so_far.1 c.in-Ready.ensures.gave.1,
         omega (arith, length_push so_far.0 out, so_far.2, c.in-Ready.ensures.fewer),
       );
       pollable = left.pollable;
@@ -29,7 +29,7 @@ returns-in-Pending g c =
     let left = c.in-Pending.ensures.queue in
     record {
       polls = record {
-        gave = record { yielded = so.row.0; before = with_task c.loop-self.self.queue c.loop-self.cx; row = so.row.1; count_left = so.row.2; last_step = c.in-Pending.ensures.waits };
+        gave = record { yielded = so.row.0; before = with_task c.loop-self.self c.loop-self.cx; row = so.row.1; count_left = so.row.2; last_step = c.in-Pending.ensures.waits };
         queue = record {
           set = g.met.Q.NumberedSet.keeps_on _ _ _ so.keeps left.set;
           room = left.room ∙ so.same_room;
@@ -48,9 +48,9 @@ returns g c =
     let same = c.pop_kept.ensures.set in
     record {
       polls = record {
-        gave = record { yielded = so.row.0; before = with_task c.loop-self.self.queue c.loop-self.cx; row = so.row.1; count_left = so.row.2; last_step = last_from g.Q.NumberedPolls.gives c.loop-self.self.queue c.pop_kept.new.self.queue c.loop-self.cx c.pop_kept.result c.pop_kept.ensures.front same };
+        gave = record { yielded = so.row.0; before = with_task c.loop-self.self c.loop-self.cx; row = so.row.1; count_left = so.row.2; last_step = last_from g.Q.NumberedPolls.gives c.loop-self.self c.pop_kept.new.self c.loop-self.cx c.pop_kept.result c.pop_kept.ensures.front same };
         queue = record {
-          set = subst (g.Q.NumberedSet.keeps c.args.self.now.queue.set) (sym same) so.keeps;
+          set = subst (g.Q.NumberedSet.keeps c.args.self.now.set) (sym same) so.keeps;
           room = search rules;
           holds = tt;
           covered = tt;

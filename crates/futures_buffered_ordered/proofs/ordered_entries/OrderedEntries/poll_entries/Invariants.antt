@@ -10,14 +10,14 @@ invariant-loop-self g l =
     let set = g.Q.NumberedSet in
     let polls = g.Q.NumberedPolls in
     record {
-      row : (yielded : List (ℕ × g.row.A.Denot)) × FoldsTo (SetYields (BesideTask polls.gives)) (with_task l.fn.self.queue l.fn.cx) yielded (with_task l.self.queue l.cx)
-          × (length yielded + set.count l.self.queue.set ≡ set.count l.fn.self.queue.set);
-      pollable : polls.can_poll l.self.queue.set;
-      keeps : set.keeps l.fn.self.queue.set l.self.queue.set;
-      same_room : l.self.queue.room ≡ l.fn.self.queue.room;
+      row : (yielded : List (ℕ × g.row.A.Denot)) × FoldsTo (SetYields (BesideTask polls.gives)) (with_task l.fn.self l.fn.cx) yielded (with_task l.self l.cx)
+          × (length yielded + set.count l.self.set ≡ set.count l.fn.self.set);
+      pollable : polls.can_poll l.self.set;
+      keeps : set.keeps l.fn.self.set l.self.set;
+      same_room : l.self.room ≡ l.fn.self.room;
       kept : Keeps l.fn.cx l.cx;
       numbered : IsNumbered set.with_number set.count l.self;
     }
 
 abbrev pub decreases-loop-self : goal.decreases-loop-self
-decreases-loop-self g l = g.Q.NumberedSet.count l.self.queue.set
+decreases-loop-self g l = g.Q.NumberedSet.count l.self.set

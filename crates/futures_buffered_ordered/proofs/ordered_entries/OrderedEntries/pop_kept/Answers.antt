@@ -1,12 +1,20 @@
-use Rattle.std.proofs.Common.{rules, ◌≡◌, ◌∷◌, sym, subst}
-use Rattle.futures_buffered_ordered.specs.declared.ordered_entries.Entry.TheVariants.{Kept}
-use Rattle.futures_buffered_ordered.specs.OrderedEntriesInvariant.{IsNumbered, KeepsNumbers, Numbering}
-use Rattle.futures_buffered_ordered.proofs.OrderedEntriesInvariantLemmas.{KeepsNumbers-popped}
+use Rattle.std.proofs.Common.{rules, ◌≡◌, ◌∷◌, ◌+◌, ◌%◌, ◌^◌, List, Option, Some, refl, ap, arith, ◌∙◌}
+use Rattle.futures_buffered_ordered.specs.OrderedEntries.{Entry, Kept}
+use Rattle.futures_buffered_ordered.specs.OrderedEntriesInvariant.{numbered_from}
+use Rattle.futures_buffered_ordered.proofs.OrderedEntriesInvariantLemmas.{numbered-same, popped_is_numbered}
 use Rattle.futures_buffered_ordered.proofs.ordered_entries.OrderedEntries.pop_kept.Goals as goal
 
-pub returns-in-Some-Kept-clause-numbered : goal.returns-in-Some-Kept-clause-numbered
-returns-in-Some-Kept-clause-numbered g c =
-    let set = g.Q.NumberedSet in
-    let keeps : KeepsNumbers set.with_number set.count c.self.inside.set c.self.inside.entries.items c.self.inside.outgoing = subst (λ (v : Numbering g.row.Q.Denot g.row.A.Denot). IsNumbered set.with_number set.count v) (sym c.self.view_is) c.requires.numbered in
-    let front : c.self.inside.entries.items ≡ Kept c.in-Some-Kept.output ∷ c.pop_front.new.self.items = search rules in
-    KeepsNumbers-popped set.with_number set.count c.self.inside.set c.self.inside.entries.items c.pop_front.new.self.items c.self.inside.outgoing c.in-Some-Kept.output keeps front
+pub returns-in-Some-Some : goal.returns-in-Some-Some
+returns-in-Some-Some g c =
+    let queue = c.self.inside in
+    let first = queue.outgoing in
+    let left = c.pop_front.new.self.items in
+    let output = c.in-Some-Some.output in
+    let was : queue.entries.items ≡ Some output ∷ left = search rules in
+    let front = ap (λ (l : List (Option g.row.A.Denot)). numbered_from first l) was ∙ ap (λ (l : List (Entry g.row.A.Denot)). Kept output ∷ l) (numbered-same (first + 1) ((first + 1) % 2 ^ 64) left (omega arith)) in
+    let numbered = rw (← c.self.view_is) at c.requires.numbered in
+    rw (← c.self.view_is) (record {
+      front = (front, refl);
+      set = refl;
+      numbered = popped_is_numbered g.Q.NumberedSet.with_number g.Q.NumberedSet.count _ _ output numbered front refl;
+    })
