@@ -10,7 +10,7 @@ use Rattle.futures.specs.Buffered.{GathersWith}
 use Rattle.futures.specs.Poll.{IfReady, OnPending}
 use Rattle.futures_buffered_unordered.specs.StreamAnswers.{StreamAnswers, stream_of}
 use Rattle.futures_buffered.specs.FutureQueue.{MayCome, AddsOutput, PollsFutureQueue, PushAddsOutput, PushLeavesQueue}
-use Rattle.futures_buffered.specs.Buffer.{Buffering, FutureQueueOf, StreamOf, Ahead, AsksStream, DrawingLeavesTask, DrawsAll, DrawsBuffer, DrawsTask, FillsBuffer, HasNoTurn, LeavesBuffer, BufferCall, PollsBuffer, PollsStream, CanDraw, WaitsAt, OneComes, BufferGives, buffer_of, answer_from}
+use Rattle.futures_buffered.specs.Buffer.{Buffering, FutureQueueOf, StreamOf, Ahead, AsksStream, DrawingLeavesTask, DrawsBuffer, DrawsTask, FillsBuffer, HasNoTurn, LeavesBuffer, PollsBuffer, PollsStream, CanDraw, WaitsAt, OneComes, BufferGives, buffer_of, answer_from}
 
 None-Some : {X F : Type 0} {f : F} → None ≡ Some f → X
 None-Some e = cc
@@ -291,25 +291,6 @@ after_draws count room can_draw yields old now new None same less last =
 after_draws count room can_draw yields old now new (Some x) same less last =
     record { same_room = last.same_room ∙ same; bound = last.bound; again = last.again; within = tt; value = less [] (Some x) last.value; after = λ xs end h. less (x ∷ xs) end (last.after xs end h) }
 
--- one call, of its draws and its poll of the queue
-pub call_of : {St F A Q : Type 0} (next : St → Poll (Option F) → St → Type 0) (count : Q → ℕ) (n : ℕ) (pushes : Q → F → Option A → Q → Type 0) (polls : Q → Poll (Option A) → Q → Type 0) (task_stays : Type 0) (old filled : Buffering St Q) (stream : Option St) (queue left : Q) (queue_answer answer : Poll (Option A))
-    → filled ≡ record { stream = stream; queue = queue } → (drawn : List F) × DrawsAll next count n pushes old drawn None filled → polls queue queue_answer left → answer ≡ answer_from (is_some stream) queue_answer
-    → (items : List F) × BufferCall next count n pushes polls task_stays old items answer (record { stream = stream; queue = left })
-call_of next count n pushes polls task_stays old filled stream queue left queue_answer answer is draws polled gives = (
-  draws.0,
-  record {
-    given = None;
-    filled = filled;
-    draws = draws.1;
-    ends = record {
-      queue_answer = queue_answer;
-      polls_queue = rw is polled;
-      same_stream = rw is refl;
-      gives = rw is gives;
-    };
-  },
-)
-
 -- where the queue gave the end and the stream has ended, nothing is held
 ended_by : {St A Q : Type 0} (count : Q → ℕ) (stream : Option St) (queue left : Q) (queue_answer : Poll (Option A)) → IfReady queue_answer (λ o. IfNone o ((count queue ≡ 0) × (left ≡ queue))) → IfReady (answer_from (is_some stream) queue_answer) (λ o. IfNone o ((stream ≡ None) × (count left ≡ 0)))
 ended_by count stream queue left (Ready (Some x)) empty = tt
@@ -415,7 +396,15 @@ poll_of source by old filled stream queue left queue_answer answer cx task_then 
       task_then = task_then;
       draws_keep = task.kept;
       not_polled = task.no_turn;
-      gave = call_of (PollsStream source.yields) by.count (by.room old.queue) by.pushes (λ before reply now. by.polls before reply now task_then after) (after ≡ task_then) old filled stream queue left queue_answer answer is draws polled.polled gives;
+      gave = (
+        draws.0,
+        record {
+          given = None;
+          filled = filled;
+          draws = draws.1;
+          ends = record { queue_answer = queue_answer; polls_queue = rw is polled.polled; same_stream = rw is refl; gives = rw is gives };
+        },
+      );
       ended = rw gives (ended_by by.count stream queue left queue_answer polled.empty);
       waits = rw gives (waits_by stream queue_answer (by.count left) polled.holds);
       same_room = polled.same_room ∙ rw is at leaves.same_room;
