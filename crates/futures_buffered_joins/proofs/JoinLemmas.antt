@@ -162,9 +162,10 @@ module _ {Q O R A E B : Type 0} (waiting : Q → List Bool) (placed : PlacedPoll
   -- an output has come at a place of the join, and one future fewer waits
   pub place_there : (old now : Places Q A) (after : Q) (start cx left : Context) (place : ℕ) (output : O) → Filling old start now cx
       → PollsPlaced waiting placed now.set (Ready (place, output)) after cx left
-      → (place < length now.outputs) × (waiting_count (waiting after) + 1 ≡ waiting_count (waiting now.set))
+      → ((place < length now.outputs) × (output_in now.outputs place ≡ None))
+      × (waiting_count (waiting after) + 1 ≡ waiting_count (waiting now.set))
   place_there old now after start cx left place output so gave = (
-    (none_came now.outputs place (sym (ap (λ (places : List Bool). get_or places place false) so.in_order) ∙ gave.frees.0)).0,
+    none_came now.outputs place (sym (ap (λ (places : List Bool). get_or places place false) so.in_order) ∙ gave.frees.0),
     ap (λ (places : List Bool). waiting_count places + 1) gave.frees.1 ∙ one_fewer (waiting now.set) place gave.frees.0,
   )
 

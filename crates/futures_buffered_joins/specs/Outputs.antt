@@ -1,7 +1,16 @@
 -- What a contract sees of the outputs of a join: at each place the output that has come, or nothing.
-use Rattle.std.specs.Prelude.{◌≡◌, ℕ, Bool, List, count_by, length, map, Option, None, Some, MatchOption, slice_get}
+use Rattle.std.specs.Prelude.{◌≡◌, ℕ, zero, suc, Bool, List, ◌∷◌, ◌++◌, count_by, drop, length, map, Option, None, Some, MatchOption, slice_get}
 use Rattle.std.specs.Prelude.{slice_index_or}
 use Rattle.std.specs.Option.{is_none}
+
+-- what comes later, from place 1 on, with nothing at place 0, if there is such a place
+abbrev pub from_the_first : {A : Type 0} → ℕ → List (Option A) → List (Option A)
+from_the_first zero later = later
+from_the_first (suc n) later = None ∷ later
+
+-- the outputs of the first places, and after them what has come later
+abbrev pub came_by_place : {A : Type 0} → List A → List (Option A) → List (Option A)
+came_by_place gathered all = map Some gathered ++ drop (length gathered) all
 
 -- the output that has come at a place, if any
 abbrev pub output_in : {A : Type 0} → List (Option A) → ℕ → Option A
