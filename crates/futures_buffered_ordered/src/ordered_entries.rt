@@ -28,9 +28,9 @@ pub const MAX_LEN: usize = usize::MAX / 2;
 /// A set of numbered futures, and the list of entries over it.
 ///
 /// A contract sees the set, the entries from the front to the back, and how many entries had a place when the queue was
-/// made. An entry in progress has the number of its future, which only the contract sees. The ordered queues are made
-/// of this type. Pushes and polls require that the futures of the set are those of the entries in progress, and leave
-/// them so.
+/// made. An entry in progress has the number of its future. It is the number of its place, so no entry keeps it. The
+/// ordered queues are made of this type. Pushes and polls require that the set holds the futures of the entries in
+/// progress, and leave it so.
 #[derive(Drop)]
 pub struct OrderedEntries<Q: Drop, A: Drop> {
     /// The set that holds the futures in progress.
