@@ -1,0 +1,13 @@
+use Rattle.std.proofs.Common.{rules}
+use Rattle.futures_buffered.proofs.in_flight.buffered.BufferedStreamExt.buffered_ordered.Goals as goal
+
+pub returns-clause-made : goal.returns-clause-made
+returns-clause-made g c =
+    let made = c.in_ok-queue.ensures.made in
+    record {
+      made = record {
+        same_stream = c.with_queue.ensures.same_stream;
+        new_queue = rw c.with_queue.ensures.new_queue made.made;
+      };
+      refuses = search (rules, made.refuses.fits);
+    }
