@@ -3,6 +3,7 @@
 ghost use Rattle.std.specs.Prelude.{◌≡◌};
 ghost use Rattle.futures.specs.Task.{Keeps};
 
+use crate::in_flight::Came;
 use crate::run::Key;
 use futures::spin::lock;
 use futures::task::{Context, Poll, Source, Waker};
@@ -33,6 +34,29 @@ impl Bell {
         let woken = lock(&self.waker).map(|mut waker| waker.take());
         drop(woken);
         true
+    }
+}
+
+/// The key and the tag of a future whose slot was freed. The value is not `Drop`: `with` makes it part of the future's
+/// output, and [`Tables::ring`] ends the future. So a cancel that rings no bell does not compile.
+pub struct Freed<T> {
+    key: Key,
+    tag: T,
+}
+
+impl<T> Freed<T> {
+    pub fn new(key: Key, tag: T) -> Freed<T>
+        ensures { (result.key ≡ key) × (result.tag ≡ tag) }
+    {
+        Freed { key, tag }
+    }
+
+    /// Returns the output with its key and its tag.
+    pub fn with<A>(self, output: A) -> Came<A, T>
+        ensures { result ≡ record { key = self.key; tag = self.tag; output = output } }
+    {
+        let Freed { key, tag } = self;
+        Came { key, tag, output }
     }
 }
 
@@ -151,14 +175,18 @@ impl Tables {
         Ok(())
     }
 
-    /// Marks the run of this push as cancelled, and wakes it if its poll was pending. Goes over all tables, one for each
-    /// doubling. A run that waited for memory looks at a newer table than the newest one at its push. The slot of a
-    /// table may have the task of another run, which is woken too.
-    pub fn ring(&self, key: Key) {
+    /// Marks the run of this future as cancelled, wakes it if its poll was pending, and returns its tag. Goes over all
+    /// tables, one for each doubling. A run that waited for memory looks at a newer table than the newest one at its
+    /// push. The slot of a table may have the task of another run, which is woken too.
+    pub fn ring<T>(&self, freed: Freed<T>) -> T
+        ensures { result ≡ freed.tag }
+    {
+        let Freed { key, tag } = freed;
         self.newest.ring(key);
         for bells in &self.older {
             bells.ring(key);
         }
+        tag
     }
 
     /// Wakes the task of one run that left a waker, if any run did.

@@ -3,20 +3,20 @@
 //! A set owns the slots, and a `FuturesUnordered` of `futures`, which polls the futures that were pushed or woken. A
 //! `FuturesUnorderedBy` is of one of two kinds: `FuturesUnorderedBounded` has a fixed number of slots, and
 //! `FuturesUnordered` makes slots.
-ghost use Rattle.std.specs.Prelude.{◌≡◌, ◌+◌, ◌^◌, ◌≤◌, ◌↔◌, ◌⊎◌, ◌<◌, Bool, false, true, [], IfOk, IfErr, OnErr, OnOk, IfSome};
+ghost use Rattle.std.specs.Prelude.{◌≡◌, ◌+◌, ◌^◌, ◌≤◌, ◌↔◌, ◌⊎◌, ◌<◌, Bool, false, true, [], IfOk, IfErr, OnErr, OnOk, IfNone, IfSome};
 ghost use Rattle.std.specs.Prelude.{IsSome, IsTrue, None, length};
 ghost use Rattle.std.specs.List.{AllByRecursion};
 ghost use Rattle.futures.specs.Queued.{AllPollable, AnyGives};
 ghost use Rattle.futures_buffered_core.specs.Made.{MakesSlots};
 ghost use Rattle.futures_buffered_core.specs.SlotMap.{held_count, no_slots, slot_count};
-ghost use Rattle.futures_buffered_in_flight.specs.InFlight.{CanPollAll, CancelsOrNone, EntersAt, GivesWithKey, HasNoRoom};
+ghost use Rattle.futures_buffered_in_flight.specs.InFlight.{CanPollAll, Cancels, CancelsOrNone, EntersAt, GivesWithKey, HasNoRoom};
 ghost use Rattle.futures_buffered_in_flight.specs.InFlight.{IsHeld, IsNewInFlight, PushesInFlight};
 ghost use Rattle.futures_buffered_in_flight.specs.InFlight.{flight_slots, room_taken, run_count, runs_in};
 ghost use Rattle.futures_buffered_in_flight.specs.InFlightTurns.{Flies};
 ghost use Rattle.futures_buffered_in_flight.specs.declared.run.Run.{Run};
 ghost use Rattle.futures_buffered_in_flight.specs.declared.run.Waits.{Waits};
 
-use crate::bells::Tables;
+use crate::bells::{Freed, Tables};
 use crate::run::{Key, Run, Waits};
 use futures::Future;
 use futures::stream::FuturesUnordered;
@@ -155,9 +155,10 @@ impl<F: Drop, T: Drop, K> FuturesUnorderedBy<F, T, K> {
         }
     }
 
-    // Frees the slot of this key, if its future is held, and returns the tag. The future occupies room as before.
-    pub(crate) fn take_place(&mut self, key: Key) -> Option<T>
-        ensures cancels { CancelsOrNone self.old key result self.new }
+    // Frees the slot of this key, if its future is held. The future occupies room as before.
+    pub(crate) fn take_place(&mut self, key: Key) -> Option<Freed<T>>
+        ensures freed { IfSome result (λ freed. (freed.key ≡ key) × Cancels self.old key freed.tag self.new) }
+        ensures none { IfNone result ((self.new ≡ self.old) × ((tag : T) → IsHeld self.old key tag → ⊥)) }
         ensures rest { (self.new.running ≡ self.old.running) × (self.new.waiting ≡ self.old.waiting) }
         ensures keys { self.new.next ≡ self.old.next }
     {
@@ -168,7 +169,7 @@ impl<F: Drop, T: Drop, K> FuturesUnorderedBy<F, T, K> {
             unreachable!()
         };
         self.cancelled += 1;
-        Some(place.tag)
+        Some(Freed::new(key, place.tag))
     }
 
     // Counts one cancelled future less, if there is one: a future that occupied room has ended.
@@ -365,9 +366,8 @@ impl<F: Future<Output: Drop>, T: Drop, K> FuturesUnorderedBy<F, T, K> {
         ensures cancels { CancelsOrNone self.old key result self.new }
         ensures again { CanPollAll F.Future self.new }
     {
-        let tag = self.take_place(key)?;
-        self.bells.ring(key);
-        Some(tag)
+        let freed = self.take_place(key)?;
+        Some(self.bells.ring(freed))
     }
 }
 

@@ -144,9 +144,9 @@ impl<F: Future<Output: Drop>, T: Drop, K> FuturesUnorderedBy<F, T, K> {
             // The set of `futures` has a future, so this arm is not taken. No clause of `futures` says so.
             Poll::Ready(None) => Some(cx.yield_now()),
             Poll::Ready(Some((key, Some(output)))) => match self.take_place(key) {
-                Some(tag) => {
+                Some(freed) => {
                     self.end_cancelled();
-                    Some(Poll::Ready(Some(Came { key, tag, output })))
+                    Some(Poll::Ready(Some(freed.with(output))))
                 }
                 None => {
                     self.end_cancelled();
