@@ -1,4 +1,4 @@
-use Rattle.futures_buffered_ordered.specs.FuturesOrdered.{held_in_groups, held_in_groups_with}
+use Rattle.futures_buffered_ordered.proofs.Common.{held_in_groups, held_in_groups_with}
 use Rattle.futures_buffered_ordered.proofs.OrderedEntriesInvariantLemmas.{is_length}
 use Rattle.futures_buffered_ordered.proofs.futures_ordered.GrowingQueue.len.Goals as goal
 

@@ -1,5 +1,4 @@
-use Rattle.futures_buffered_ordered.specs.Numbered.{held_with}
-use Rattle.futures_buffered_unordered.specs.FuturesUnorderedBounded.{held_in}
+use Rattle.futures_buffered_ordered.proofs.Common.{held_with, held_in}
 use Rattle.futures_buffered_ordered.proofs.OrderedEntriesInvariantLemmas.{is_length}
 use Rattle.futures_buffered_ordered.proofs.futures_ordered_bounded.BoundedQueue.len.Goals as goal
 
