@@ -1,13 +1,17 @@
 -- What holds of an ordered queue over a bounded set: what a push needs, how many names a poll takes, and what may come.
 use Rattle.std.proofs.Common.{◌≡◌, ℕ, ◌+◌, ◌*◌, ◌<◌, ◌≤◌, List, [], ◌∷◌, ◌++◌, length, cond, is_some, Option, Some, None, IfNone, sym, ap, subst, inl, inr, arith, ◌∙◌, add-one}
-use Rattle.futures_buffered_ordered.proofs.Common.{FoldsTo, append_assoc, length-replicate, sum_by-replicate, MAX_CAPACITY, Covers, IfReady, OnPending, Context, Poll, Ready, Pending, slot_count, held_count, no_slots, Bounded, held_in, ReadySourceOf, PollOneOf, EndsPending, PollsBounded, covers_fewer, held_with, of_numbered, BesideTask, MayRefuse, Ordered, OrderedGives, SetYields, with_task, OrderedBounded, PollsOrderedBounded, SetGives, SetIsFull, SetMayGive, TakesFewNames, names_of_row, names_taken, KeepsBoundedQueue, Numbered}
+use Rattle.futures_buffered_ordered.proofs.Common.{FoldsTo, append_assoc, length-replicate, sum_by-replicate, MAX_CAPACITY, Covers, IfReady, OnPending, Context, Poll, Ready, Pending, slot_count, held_count, no_slots, Bounded, held_in, ReadySourceOf, PollOneOf, EndsPending, PollsBounded, covers_fewer, held_with, of_numbered, BesideTask, MayRefuse, Ordered, OrderedGives, SetYields, with_task, OrderedBounded, PollsOrderedBounded, SetGives, SetIsFull, SetMayGive, TakesFewNames, names_of_row, names_taken, KeepsBoundedQueue, Numbered, IsLength, NoNumberTwice}
 use Rattle.std.proofs.Math.Nat.{mul-le-mul_left, mul-suc}
 use Rattle.futures_buffered_table.specs.declared.answer.Taken.{Taken}
 use Rattle.futures_buffered_table.specs.declared.answer.Taken.TheVariants.{Slot, Empty, Pause}
 use Rattle.futures_buffered_unordered.proofs.FuturesUnorderedBoundedLemmas.{poll_gave, poll_still}
-use Rattle.futures_buffered_ordered.proofs.OrderedEntriesInvariantLemmas.{held_by_entries, new_is_numbered, polled_is_numbered}
+use Rattle.futures_buffered_ordered.proofs.OrderedEntriesInvariantLemmas.{held_by_entries, new_is_numbered, polled_is_numbered, is_length}
 use Rattle.futures_buffered_ordered.proofs.NumberedLemmas.{in_slots, numbers_none}
 use Rattle.futures_buffered_ordered.proofs.OrderedEntriesLemmas.{gives_alone}
+
+-- what a bounded queue says of its length
+pub bounded_length : {F A S : Type 0} (q : OrderedBounded F A S) (n : ℕ) → KeepsBoundedQueue q → n ≡ length q.entries → NoNumberTwice q.entries → IsLength held_with held_in q n
+bounded_length q n keeps long once = is_length held_with held_in q n keeps.numbered long once
 
 -- where there are fewer entries than slots, no push is refused
 pub has_room : {F A S : Type 0} (q : OrderedBounded F A S) → KeepsBoundedQueue q → length q.entries < slot_count q.set.slots → MayRefuse SetIsFull q → ⊥

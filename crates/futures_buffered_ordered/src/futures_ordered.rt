@@ -133,6 +133,7 @@ impl<T: Drop, A: Drop, S: NewSource> Model for GrowingQueue<T, A, S> {
 
 impl<T: Drop, A: Drop, S: NewSource> GrowingQueue<T, A, S> {
     /// The number of entries, in progress and kept.
+    #[tactic(auto, using(crate::proofs::OrderedEntriesInvariantLemmas::is_length))]
     pub fn len(&self) -> usize
         ensures { IsLength held_in_groups_with held_in_groups self.now result }
     {

@@ -133,6 +133,7 @@ impl<T: Drop, A: Drop, S: ReadySource> Model for BoundedQueue<T, A, S> {
 
 impl<T: Drop, A: Drop, S: ReadySource> BoundedQueue<T, A, S> {
     /// The number of entries, in progress and kept.
+    #[tactic(auto, using(crate::proofs::FuturesOrderedBoundedLemmas::bounded_length))]
     pub fn len(&self) -> usize
         ensures { IsLength held_with held_in self.now result }
     {
