@@ -1,26 +1,11 @@
 -- What one draw, and one poll of the queue, leave of what may come from a buffer, and of whether it may be polled.
-use Rattle.std.proofs.Common.{◌≡◌, ◌⊎◌, ℕ, ◌+◌, ◌<◌, List, [], ◌∷◌, ◌++◌, length, Option, Some, None, IfNone, IfSome, IsSomeAnd, Bool, true, false, is_some, refl, sym, ap, subst, inl, inr, arith, ◌∙◌, append_assoc}
+use Rattle.std.proofs.Common.{◌≡◌, ◌⊎◌, ℕ, ◌+◌, ◌<◌, ◌≤◌, List, [], ◌∷◌, ◌++◌, length, Option, Some, None, IfNone, IfSome, IsSomeAnd, Bool, true, false, is_some, refl, sym, ap, subst, inl, inr, arith, ◌∙◌, append_assoc}
+use Rattle.futures_buffered.proofs.Common.{Poll, Ready, Pending, Context, Lasting, Covers, Keeps, Hears, Runs, After, Within, Ends, Leads, Chains, Resolves, firsts, IfReady, OnPending, StreamAnswers, stream_of, MayCome, AddsOutput, PollsFutureQueue, PushAddsOutput, PushLeavesQueue, Buffering, FutureQueueOf, StreamOf, Ahead, AsksStream, DrawingLeavesTask, DrawsBuffer, DrawsTask, FillsBuffer, HasNoTurn, LeavesBuffer, PollsBuffer, PollsStream, CanDraw, WaitsAt, OneComes, BufferGives, buffer_of, answer_from, DrawsNone, none-some}
 use Rattle.futures.proofs.SentLemmas.{AllByRecursion_weaker}
-use Rattle.futures.specs.declared.task.Poll.{Poll}
-use Rattle.futures.specs.declared.task.Poll.TheVariants.{Ready, Pending}
-use Rattle.futures.specs.declared.task.context.Context.{Context}
-use Rattle.futures.specs.Task.{Lasting, Covers, Keeps, Hears}
-use Rattle.futures.specs.Runs.{Runs, After, Within, Ends, Leads, Chains, Resolves, firsts}
 use Rattle.futures.specs.Buffered.{GathersWith}
-use Rattle.futures.specs.Poll.{IfReady, OnPending}
-use Rattle.futures_buffered_unordered.specs.StreamAnswers.{StreamAnswers, stream_of}
-use Rattle.futures_buffered.specs.FutureQueue.{MayCome, AddsOutput, PollsFutureQueue, PushAddsOutput, PushLeavesQueue}
-use Rattle.futures_buffered.specs.Buffer.{Buffering, FutureQueueOf, StreamOf, Ahead, AsksStream, DrawingLeavesTask, DrawsBuffer, DrawsTask, FillsBuffer, HasNoTurn, LeavesBuffer, PollsBuffer, PollsStream, CanDraw, WaitsAt, OneComes, BufferGives, buffer_of, answer_from}
-
-None-Some : {X F : Type 0} {f : F} → None ≡ Some f → X
-None-Some e = cc
 
 nil-cons : {X F : Type 0} {f : F} {fs : List F} → f ∷ fs ≡ [] → X
 nil-cons e = cc
-
--- what comes from a thing may come from its like
-pub as_before : {B A : Type 0} (gives : B → Runs A) (b same : B) → b ≡ same → Within (gives b) (gives same)
-as_before gives b same is xs last h = rw is h
 
 -- the end may come after no more items, and what gives an output gave it before
 gathers_within : {F A : Type 0} (P Q : A → Type 0) (m n : ℕ) (before after : Runs F) → ((x : A) → Q x → P x)
@@ -43,7 +28,7 @@ gathers_after P Q m n before after x first weaker ends xs (Some y) h = record { 
 -- a source that may end may give what one that has ended gives
 pub ends_within : {F : Type 0} (source : Runs F) → source [] None → Within source Ends
 ends_within source ended [] None h = ended
-ends_within source ended [] (Some x) h = None-Some (sym h.1)
+ends_within source ended [] (Some x) h = absurd (none-some _ (sym h.1))
 ends_within source ended (x ∷ xs) last h = nil-cons h.0
 
 module _ {A : Type 0} where
@@ -64,7 +49,7 @@ module _ {A : Type 0} where
   -- one more output behind all others is one more at any place
   by_rest : (P : A → Type 0) (zs : List A) (x : A) → Leads P Ends zs (Some x) → P x
   by_rest P [] x then = then
-  by_rest P (z ∷ zs) x then = None-Some (sym then.1.1)
+  by_rest P (z ∷ zs) x then = absurd (none-some _ (sym then.1.1))
 
   pub adds_anywhere : (in_order : Bool) (old new : Runs A) (P : A → Type 0) → AddsOutput in_order old P new → AddsOutput false old P new
   adds_anywhere true old new P adds x came = by_part (adds came.0 (Some x) came.1)
@@ -100,7 +85,7 @@ module _ {F A : Type 0} (gives : F → A → Type 0) (source left : Runs F) (ite
     where
       by_zs : (zs : List A) → Leads (gives item) Ends zs (Some y) → Resolves gives source zs (Some y)
       by_zs [] then = resolves_first gives source item y came then
-      by_zs (z ∷ zs) then = None-Some (sym then.1.1)
+      by_zs (z ∷ zs) then = absurd (none-some _ (sym then.1.1))
 
   and_more : (xs ys zs : List A) (last : Option A) → xs ≡ ys ++ zs → Chains old (Leads (gives item) Ends) ys None → Resolves gives left zs last → Chains old (Resolves gives source) xs last
   and_more xs ys zs last eq (inl h) more = absurd h
@@ -217,12 +202,12 @@ module _ {St X A Q : Type 0} (yields : St → Runs X) (item_gives : X → A → 
   given_after in_order s s2 item x old new is same gives came rest = rw (is, same) (item_after s s2 item x old gives came rest)
 
   -- the stream was pending
-  pub pending_within : (in_order : Bool) (s s2 : St) (q : Q) → Within (yields s) (yields s2) → Within (Gives in_order (Some s) q) (Gives in_order (Some s2) q)
+  pending_within : (in_order : Bool) (s s2 : St) (q : Q) → Within (yields s) (yields s2) → Within (Gives in_order (Some s) q) (Gives in_order (Some s2) q)
   pending_within true s s2 q same = chains_more (comes q) (Resolves item_gives (yields s)) (Resolves item_gives (yields s2)) (resolves_same item_gives (yields s) (yields s2) same)
   pending_within false s s2 q same = pending_comes s s2 q same
 
   -- the stream ended
-  pub end_within : (in_order : Bool) (s : St) (q : Q) → yields s [] None → Within (Gives in_order (Some s) q) (Gives in_order None q)
+  end_within : (in_order : Bool) (s : St) (q : Q) → yields s [] None → Within (Gives in_order (Some s) q) (Gives in_order None q)
   end_within true s q ended = chains_more (comes q) (Resolves item_gives (yields s)) (Resolves item_gives Ends) (resolves_same item_gives (yields s) Ends (ends_within (yields s) ended))
   end_within false s q ended = end_comes s q ended
 
@@ -252,36 +237,67 @@ module _ {St X Q : Type 0} (can_next : St → Type 0) (yields : St → Runs X) (
   item_can s s2 item old new again can rest next =
       record { stream = next; to_come = λ xs x h. can.to_come (item ∷ xs) x (rest xs (Some x) h); held = again }
 
-  pub pending_can : (s s2 : St) (q : Q) → CanDraw can_next yields is_fit can_poll (record { stream = Some s; queue = q }) → Within (yields s) (yields s2) → can_next s2
+  pending_can : (s s2 : St) (q : Q) → CanDraw can_next yields is_fit can_poll (record { stream = Some s; queue = q }) → Within (yields s) (yields s2) → can_next s2
       → CanDraw can_next yields is_fit can_poll (record { stream = Some s2; queue = q })
   pending_can s s2 q can same next = record { stream = next; to_come = λ xs x h. can.to_come xs x (same xs (Some x) h); held = can.held }
 
--- what an item leaves that was drawn, by whether its push handed back an answer
-module _ {St X A Q : Type 0} (can_next : St → Type 0) (yields : St → Runs X) (item_gives : X → A → Type 0) (is_fit : X → Type 0) (count room : Q → ℕ) (comes : Q → Runs A) (can_poll : Q → Type 0) (in_order : Bool) (b : Buffering St Q) (s s2 : St) (item : X) (old new : Q) (is : b ≡ record { stream = Some s; queue = old })
-    (below : count old < room old) (can : CanDraw can_next yields is_fit can_poll b) (came : yields s [] (Some item)) (rest : After (yields s) item (yields s2)) (next : can_next s2) where
-  again_can : can_poll new → CanDraw can_next yields is_fit can_poll (record { stream = Some s2; queue = new })
-  again_can again = item_can can_next yields is_fit can_poll s s2 item old new again (subst (CanDraw can_next yields is_fit can_poll) is can) rest next
+-- what a step of filling leaves that took no item
+pub none_leaves : {St X A Q : Type 0} (source : StreamOf St X) (by : FutureQueueOf Q X A) (s : Option St) (q : Q) (new : Buffering St Q) → DrawsNone (PollsStream source.yields) by.count (by.room q) (record { stream = s; queue = q }) new
+    → IfSome new.stream source.can_poll → by.count q ≤ by.room q → (buffer_of source by).can_poll (record { stream = s; queue = q }) → LeavesBuffer source by (record { stream = s; queue = q }) None new
+none_leaves source by s q new (inl h) next bound can = rw h.1 (record { same_room = refl; bound = bound; again = can; within = λ xs last may. may; value = tt; after = tt })
+none_leaves source by s q new (inr (inl (left, asks, is))) next bound can =
+    let same = asks.answers.same in
+    rw (is, asks.not_ended) (record {
+      same_room = refl;
+      bound = bound;
+      again = pending_can source.can_poll source.yields by.is_fit by.can_poll asks.stream left q (rw asks.not_ended at can) same (rw is at next);
+      within = pending_within source.yields by.gives by.count by.yields by.in_order asks.stream left q same;
+      value = tt;
+      after = tt;
+    })
+none_leaves source by s q new (inr (inr (left, asks, is))) next bound can =
+    rw (is, asks.not_ended) (record {
+      same_room = refl;
+      bound = bound;
+      again = record { stream = tt; to_come = tt; held = can.held };
+      within = end_within source.yields by.gives by.count by.yields by.in_order asks.stream q asks.answers.value;
+      value = tt;
+      after = tt;
+    })
 
-  pub item_leaves : (given : Option A) → PushLeavesQueue count room old given new → PushAddsOutput in_order comes (item_gives item) old given new → can_poll new
-      → DrawsBuffer count room (CanDraw can_next yields is_fit can_poll) (BufferGives yields item_gives count comes in_order) b given (record { stream = Some s2; queue = new })
-  item_leaves None push output again =
-      rw is (record {
-        same_room = push.same_room;
-        bound = omega (arith, below, push.one_more, push.same_room);
-        again = again_can again;
-        within = item_within yields item_gives count comes in_order s s2 item old new output.adds push.one_more came rest;
-        value = tt;
-        after = tt;
-      })
-  item_leaves (Some x) push output again =
-      rw is (record {
-        same_room = push.same_room;
-        bound = let e = ap count push.stays in omega (arith, below, e, push.same_room);
-        again = again_can again;
-        within = tt;
-        value = given_value yields item_gives count comes in_order s item x old output.overtakes output.value came;
-        after = given_after yields item_gives count comes in_order s s2 item x old new output.overtakes push.stays output.value came rest;
-      })
+-- what an item leaves that was drawn, by whether its push handed back an answer
+module _ {St X A Q : Type 0} (source : StreamOf St X) (by : FutureQueueOf Q X A) (s : Option St) (left : St) (item : X) (old new : Q)
+    (asks : AsksStream (PollsStream source.yields) by.count (by.room old) (record { stream = s; queue = old }) (Ready (Some item)) left)
+    (can : (buffer_of source by).can_poll (record { stream = s; queue = old })) (next : source.can_poll left) where
+  pub item_fit : by.is_fit item
+  item_fit = (rw asks.not_ended at can.to_come) [] item asks.answers.value
+
+  pub item_leaves : (given : Option A) → PushLeavesQueue by.count by.room old given new → PushAddsOutput by.in_order by.yields (by.gives item) old given new → by.can_poll new
+      → LeavesBuffer source by (record { stream = s; queue = old }) given (record { stream = Some left; queue = new })
+  item_leaves given push output again =
+      let then = item_can source.can_poll source.yields by.is_fit by.can_poll asks.stream left item old new again (rw asks.not_ended at can) asks.answers.rest next in
+      rw asks.not_ended (by_given given push output then)
+    where
+      by_given : (given : Option A) → PushLeavesQueue by.count by.room old given new → PushAddsOutput by.in_order by.yields (by.gives item) old given new → (buffer_of source by).can_poll (record { stream = Some left; queue = new })
+          → LeavesBuffer source by (record { stream = Some asks.stream; queue = old }) given (record { stream = Some left; queue = new })
+      by_given None push output then =
+          record {
+            same_room = push.same_room;
+            bound = omega (arith, asks.has_room, push.one_more, push.same_room);
+            again = then;
+            within = item_within source.yields by.gives by.count by.yields by.in_order asks.stream left item old new output.adds push.one_more asks.answers.value asks.answers.rest;
+            value = tt;
+            after = tt;
+          }
+      by_given (Some x) push output then =
+          record {
+            same_room = push.same_room;
+            bound = let e = ap by.count push.stays in omega (arith, asks.has_room, e, push.same_room);
+            again = then;
+            within = tt;
+            value = given_value source.yields by.gives by.count by.yields by.in_order asks.stream item x old output.overtakes output.value asks.answers.value;
+            after = given_after source.yields by.gives by.count by.yields by.in_order asks.stream left item x old new output.overtakes push.stays output.value asks.answers.value asks.answers.rest;
+          }
 
 -- what the last draw leaves, where those before it handed nothing back
 pub after_draws : {St A Q : Type 0} (count room : Q → ℕ) (can_draw : Buffering St Q → Type 0) (yields : Buffering St Q → Runs A) (old now new : Buffering St Q) (given : Option A) → room now.queue ≡ room old.queue → Within (yields old) (yields now)
@@ -298,14 +314,11 @@ ended_by count None queue left (Ready None) empty = (refl, rw empty.1 empty.0)
 ended_by count (Some s) queue left (Ready None) empty = tt
 ended_by count stream queue left Pending empty = tt
 
-some-ne-none-of : {St : Type 0} (s : St) → Some s ≡ None → ⊥
-some-ne-none-of s e = cc
-
 -- where it was pending, and the stream has ended, something is held
 waits_by : {St A : Type 0} (stream : Option St) (queue_answer : Poll (Option A)) (held : ℕ) → OnPending queue_answer (0 < held) → OnPending (answer_from (is_some stream) queue_answer) (stream ≡ None → 0 < held)
 waits_by stream (Ready (Some x)) held holds = tt
 waits_by None (Ready None) held holds = tt
-waits_by (Some s) (Ready None) held holds = λ e. absurd (some-ne-none-of s e)
+waits_by (Some s) (Ready None) held holds = λ e. absurd (none-some s (sym e))
 waits_by stream Pending held holds = λ _. holds
 
 module _ {St Q : Type 0} (stream_needs : St → ℕ → Type 0) (queue_needs : Q → ℕ → Type 0) (count room : Q → ℕ) (b : Buffering St Q) (stream : Option St) (old new : Q) (before after : Context) (is : b ≡ record { stream = stream; queue = old })
@@ -417,11 +430,11 @@ pub had_turn : {St X Q : Type 0} (next : St → Poll (Option X) → St → Type 
 had_turn {St} {X} {Q} next count n old s q is room none = by_turn (subst (HasNoTurn next count n) is none)
   where
     by_turn : HasNoTurn next count n (record { stream = Some s; queue = q }) → ⊥
-    by_turn (inl ended) = None-Some (sym ended)
+    by_turn (inl ended) = absurd (none-some _ (sym ended))
     by_turn (inr full) = absurd (omega (arith, full, room))
 
 pub asked_had_turn : {St X Q : Type 0} (next : St → Poll (Option X) → St → Type 0) (count : Q → ℕ) (n : ℕ) (old : Buffering St Q) (answer : Poll (Option X)) (left : St) → AsksStream next count n old answer left → HasNoTurn next count n old → ⊥
-asked_had_turn next count n old answer left asks (inl ended) = None-Some (sym ended ∙ asks.not_ended)
+asked_had_turn next count n old answer left asks (inl ended) = absurd (none-some _ (sym ended ∙ asks.not_ended))
 asked_had_turn next count n old answer left asks (inr full) = absurd (omega (arith, full, asks.has_room))
 
 -- what a poll of the stream leaves of the task

@@ -1,36 +1,18 @@
 -- Where each value held came from, and that no item drawn is lost or counted twice.
 use Rattle.std.proofs.Common.{◌≡◌, ℕ, zero, suc, ◌<◌, List, [], ◌∷◌, ◌++◌, length, set, get_or, filter_map, Option, Some, None, Result, MatchOption, is_some, count_by, cond, refl, sym, subst, arith, append-nil}
-use Rattle.std.specs.Prelude.{IsPermutation, ⊤}
-use Rattle.std.specs.Option.{option_to_list}
-use Rattle.std.specs.List.{FoldsTo, AllZip}
-use Rattle.std.proofs.lemmas.Fn.{FoldsTo-push}
+use Rattle.futures_buffered.proofs.Common.{IsPermutation, ⊤, option_to_list, FoldsTo, AllZip, FoldsTo-push, sum_by-cons, Poll, Ready, Pending, Slots, value_in, with_value, with_slot_freed, Inserts, Woke, Passes, Yields, Bounded, Pushes, held_in, ReadySourceOf, SlotFutureOf, PollsBounded, itself, OfSomeTask, OnlyPushes, StreamOf, Accounts, PollsStream, output_given, PendsTo, WaitsInSlot, MayGiveInSlot, LosesNothing, TryLosesNothing, held_values, PushesOk, same_Some, none-some}
 use Rattle.std.proofs.lemmas.List.Sorted.{IsPermutation-refl, IsPermutation-sym, IsPermutation-trans, IsPermutation-cons, IsPermutation-middle, IsPermutation-append_right, IsPermutation-push_more, IsPermutation-pop_more}
-use Rattle.std.proofs.lemmas.List.Sums.{sum_by-cons}
-use Rattle.futures.specs.declared.task.Poll.{Poll}
-use Rattle.futures.specs.declared.task.Poll.TheVariants.{Ready, Pending}
-use Rattle.futures_buffered_core.specs.SlotMap.{Slots, value_in, with_value, with_slot_freed, Inserts}
-use Rattle.futures_buffered_table.specs.declared.answer.Woke.{Woke}
-use Rattle.futures_buffered_unordered.specs.Held.{Passes, Yields}
-use Rattle.futures_buffered_unordered.specs.FuturesUnorderedBounded.{Bounded, Pushes, held_in}
-use Rattle.futures_buffered_core.specs.declared.ready_source.ReadySource.{Ghosts as ReadySourceOf}
-use Rattle.futures_buffered_unordered.specs.declared.slot_future.SlotFuture.{Ghosts as SlotFutureOf}
-use Rattle.futures_buffered_unordered.specs.PollsBounded.{PollsBounded, itself}
-use Rattle.futures_buffered_unordered.specs.StreamAnswers.{OfSomeTask}
-use Rattle.futures_buffered.specs.FutureQueue.{OnlyPushes}
-use Rattle.futures_buffered.specs.Buffer.{StreamOf, Accounts, PollsStream, output_given}
-use Rattle.futures_buffered.specs.BufferUnordered.{PendsTo, WaitsInSlot, MayGiveInSlot, LosesNothing, TryLosesNothing, held_values}
-use Rattle.futures_buffered.specs.TryBuffer.{PushesOk}
 use Rattle.futures_buffered.proofs.BufferAccountLemmas.{many_calls}
 use Rattle.futures_buffered.proofs.TryBufferAccountLemmas.{AmongErrors, error_handed, ok_drew, queue_gave}
 
 abbrev pub somes : {F : Type 0} → List (Option F) → List F
 somes = filter_map (λ o. o)
 
-None-Some : {X : Type 0} {F : Type 0} {f : F} → None ≡ Some f → X
-None-Some e = cc
-
-Some-same : {F : Type 0} {f g : F} → Some f ≡ Some g → f ≡ g
-Some-same e = cc
+pub zip_push : {E G : Type 0} (P : E → G → Type 0) (es : List E) (gs : List G) (e : E) (g : G) → AllZip P es gs → P e g → AllZip P (es ++ e ∷ []) (gs ++ g ∷ [])
+zip_push P [] [] e g zip p = (p, tt)
+zip_push P [] (d ∷ gs) e g zip p = absurd zip
+zip_push P (d ∷ es) [] e g zip p = absurd zip
+zip_push P (c ∷ es) (d ∷ gs) e g zip p = (zip.0, zip_push P es gs e g zip.1 p)
 
 module _ {F A : Type 0} where
   -- how a value is polled with the waker of each slot, where the first slot is left out
@@ -63,7 +45,7 @@ module _ {F A : Type 0} where
   put_in polled (None ∷ os) (None ∷ ps) zero f came below empty = (Some f ∷ os, (([], refl), came.1), IsPermutation-refl (f ∷ somes os))
   put_in polled (None ∷ os) (Some p ∷ ps) zero f came below empty = absurd came.0
   put_in polled (Some o ∷ os) (None ∷ ps) zero f came below empty = absurd came.0
-  put_in polled (Some o ∷ os) (Some p ∷ ps) zero f came below empty = None-Some (sym empty)
+  put_in polled (Some o ∷ os) (Some p ∷ ps) zero f came below empty = absurd (none-some _ (sym empty))
   put_in polled (None ∷ os) (p ∷ ps) (suc i) f came below empty =
       let more = put_in (from_next polled) os ps i f came.1 (omega arith) empty in
       (None ∷ more.0, (came.0, more.1), more.2)
@@ -73,26 +55,26 @@ module _ {F A : Type 0} where
 
   -- a pending poll of what a place holds
   left_at : (polled : ℕ → F → Poll A → F → Type 0) (os ps : List (Option F)) (i : ℕ) (f g : F) → Origins polled os ps → get_or ps i None ≡ Some f → polled i f Pending g → Origins polled os (set ps i (Some g))
-  left_at polled [] [] i f g came found p = None-Some found
+  left_at polled [] [] i f g came found p = absurd (none-some _ found)
   left_at polled [] (q ∷ ps) i f g came found p = absurd came
   left_at polled (o ∷ os) [] i f g came found p = absurd came
-  left_at polled (None ∷ os) (None ∷ ps) zero f g came found p = None-Some found
+  left_at polled (None ∷ os) (None ∷ ps) zero f g came found p = absurd (none-some _ found)
   left_at polled (None ∷ os) (Some q ∷ ps) zero f g came found p = absurd came.0
   left_at polled (Some o ∷ os) (None ∷ ps) zero f g came found p = absurd came.0
-  left_at polled (Some o ∷ os) (Some q ∷ ps) zero f g came found p = (waits_more (polled 0) o f g (subst (PendsTo (polled 0) o) (Some-same found) came.0) p, came.1)
+  left_at polled (Some o ∷ os) (Some q ∷ ps) zero f g came found p = (waits_more (polled 0) o f g (subst (PendsTo (polled 0) o) (same_Some _ _ found) came.0) p, came.1)
   left_at polled (o ∷ os) (q ∷ ps) (suc i) f g came found p = (came.0, left_at (from_next polled) os ps i f g came.1 found p)
 
   -- a place whose value gave an output was emptied
   taken_out : (polled : ℕ → F → Poll A → F → Type 0) (os ps : List (Option F)) (i : ℕ) (f g h : F) (x : A) → Origins polled os ps → get_or ps i None ≡ Some f → polled i f (Ready x) g
       → (o : F) × (os2 : List (Option F)) × MayGiveInSlot polled o x × Origins polled os2 (set (set ps i (Some h)) i None) × IsPermutation (somes os) (o ∷ somes os2)
-  taken_out polled [] [] i f g h x came found p = None-Some found
+  taken_out polled [] [] i f g h x came found p = absurd (none-some _ found)
   taken_out polled [] (q ∷ ps) i f g h x came found p = absurd came
   taken_out polled (o ∷ os) [] i f g h x came found p = absurd came
-  taken_out polled (None ∷ os) (None ∷ ps) zero f g h x came found p = None-Some found
+  taken_out polled (None ∷ os) (None ∷ ps) zero f g h x came found p = absurd (none-some _ found)
   taken_out polled (None ∷ os) (Some q ∷ ps) zero f g h x came found p = absurd came.0
   taken_out polled (Some o ∷ os) (None ∷ ps) zero f g h x came found p = absurd came.0
   taken_out polled (Some o ∷ os) (Some q ∷ ps) zero f g h x came found p =
-      let w = subst (PendsTo (polled 0) o) (Some-same found) came.0 in
+      let w = subst (PendsTo (polled 0) o) (same_Some _ _ found) came.0 in
       (o, None ∷ os, (0, (w.0, f, g, w.1, p)), (tt, came.1), IsPermutation-refl (o ∷ somes os))
   taken_out polled (None ∷ os) (q ∷ ps) (suc i) f g h x came found p =
       let more = taken_out (from_next polled) os ps i f g h x came.1 found p in
@@ -145,12 +127,6 @@ module _ {F A : Type 0} (polled : ℕ → F → Poll A → F → Type 0) where
     pub gave : AllZip (MayGiveInSlot polled) gone outputs
     pub came : Origins polled origins m.places
 
-  zip-push : (fs : List F) (xs : List A) (f : F) (x : A) → AllZip (MayGiveInSlot polled) fs xs → MayGiveInSlot polled f x → AllZip (MayGiveInSlot polled) (fs ++ f ∷ []) (xs ++ x ∷ [])
-  zip-push [] [] f x zip may = (may, tt)
-  zip-push [] (y ∷ xs) f x zip may = absurd zip
-  zip-push (g ∷ fs) [] f x zip may = absurd zip
-  zip-push (g ∷ fs) (y ∷ xs) f x zip may = (zip.0, zip-push fs xs f x zip.1 may)
-
   pub drew : (drawn : List F) (outputs : List A) (old new : Slots F) (i : ℕ) (f : F) → SoFar drawn outputs old → Inserts old i f new → SoFar (drawn ++ f ∷ []) outputs new
   drew drawn outputs old new i f so into =
       let put = put_in polled so.origins old.places i f so.came into.within into.was_empty in
@@ -173,7 +149,7 @@ module _ {F A S W : Type 0} (future : SlotFutureOf F W A) (source : ReadySourceO
         gone = so.gone ++ out.0 ∷ [];
         origins = out.1;
         all = IsPermutation-pop_more drawn so.gone (somes so.origins) (somes out.1) out.0 so.all out.4;
-        gave = zip-push future.polled so.gone outputs out.0 x so.gave out.2;
+        gave = zip_push (MayGiveInSlot future.polled) so.gone outputs out.0 x so.gave out.2;
         came = rw poll.gave.1.3 out.3;
       }
   gave_one drawn outputs old new Pending so (cx, left, poll) =

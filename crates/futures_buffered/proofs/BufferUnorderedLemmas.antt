@@ -1,37 +1,18 @@
 -- What a push, and one poll, leave of a bounded set as what a buffer holds.
 use Rattle.std.proofs.Common.{◌≡◌, ◌⊎◌, ℕ, ◌<◌, [], length, Option, Some, None, IfNone, false, is_some, cond, sym, subst, inl, inr, arith, ◌∙◌}
-use Rattle.std.proofs.lemmas.List.{get_or-set_same, get_or-set_other, get_or_past}
-use Rattle.std.proofs.lemmas.List.Sums.{get_or-le-sum_by}
-use Rattle.std.proofs.lemmas.Bool.{cases_eq, cases_lt}
-use Rattle.futures.specs.declared.task.context.Context.{Context}
-use Rattle.futures.specs.declared.task.Poll.{Poll}
-use Rattle.futures.specs.declared.task.Poll.TheVariants.{Ready, Pending}
-use Rattle.futures.specs.Poll.{IfReady, OnPending}
-use Rattle.futures_buffered_core.specs.SlotMap.{Slots, value_in, held_count, with_value, Inserts}
-use Rattle.futures_buffered_table.specs.declared.answer.Woke.{Woke}
-use Rattle.futures_buffered_core.specs.declared.ready_source.ReadySource.{Ghosts as ReadySourceOf}
-use Rattle.futures_buffered_unordered.specs.declared.slot_future.SlotFuture.{Ghosts as SlotFutureOf}
-use Rattle.futures_buffered_unordered.specs.Held.{MayGive, AllHeld, ComesFrom}
-use Rattle.futures_buffered_unordered.specs.FuturesUnorderedBounded.{Bounded, Pushes, held_in}
-use Rattle.futures_buffered_unordered.specs.PollsBounded.{PollsBounded, itself}
-use Rattle.futures_buffered_unordered.proofs.HeldLemmas.{AllHeld-push}
-use Rattle.futures_buffered.specs.FutureQueue.{AddsOutput}
-use Rattle.futures_buffered.specs.BufferUnordered.{MayGiveInSlot}
-
-Some-same : {F : Type 0} {f g : F} → Some f ≡ Some g → f ≡ g
-Some-same e = cc
+use Rattle.futures_buffered.proofs.Common.{get_or-set_same, get_or-set_other, get_or_past, get_or-le-sum_by, cases_eq, cases_lt, Context, Poll, Ready, Pending, IfReady, OnPending, Slots, value_in, held_count, with_value, Inserts, Woke, ReadySourceOf, SlotFutureOf, MayGive, AllHeld, ComesFrom, Bounded, Pushes, held_in, PollsBounded, itself, AllHeld-push, AddsOutput, MayGiveInSlot, same_Some}
 
 -- a value held after an insertion is the one that went in, or was held before
 held-inserts : {F : Type 0} (old new : Slots F) (i j : ℕ) (f g : F) → Inserts old i f new → value_in new j ≡ Some g → (g ≡ f) ⊎ (value_in old j ≡ Some g)
 held-inserts {F} old new i j f g into found =
     let found_set : value_in (with_value old i f) j ≡ Some g = rw (← into.now_held) found in
     elim (cases_eq j i) [
-      | inl same ↦ inl (Some-same (sym found_set ∙ rw same (get_or-set_same old.places i (Some f) None into.within)))
+      | inl same ↦ inl (same_Some _ _ (sym found_set ∙ rw same (get_or-set_same old.places i (Some f) None into.within)))
       | inr other ↦ inr (sym (get_or-set_other old.places i j (Some f) None other) ∙ found_set)
     ]
 
 -- a value that is held counts
-some_held : {F : Type 0} (m : Slots F) (i : ℕ) (f : F) → value_in m i ≡ Some f → 0 < held_count m
+pub some_held : {F : Type 0} (m : Slots F) (i : ℕ) (f : F) → value_in m i ≡ Some f → 0 < held_count m
 some_held {F} m i f found =
     let within : i < length m.places = elim (cases_lt i (length m.places)) [
       | inl below ↦ below

@@ -1,54 +1,18 @@
 -- That the outputs of an ordered buffer are those of the first items drawn, in order, and that no item drawn is lost.
 use Rattle.std.proofs.Common.{◌≡◌, ◌≢◌, ℕ, zero, suc, ◌+◌, ◌≤◌, Bool, List, [], ◌∷◌, ◌++◌, set, Option, Some, None, Result, MatchOption, cond, count_by, refl, sym, ap, subst, inl, inr, ◌∙◌, append-nil, append_assoc, length, arith}
-use Rattle.std.specs.Option.{option_to_list}
-use Rattle.std.specs.List.{FoldsTo, AllZip, slice_get}
-use Rattle.std.proofs.lemmas.List.{get_or-set_other}
-use Rattle.std.proofs.lemmas.List.Sums.{sum_by-cons, sum_by_push}
-use Rattle.std.proofs.lemmas.Bool.{cases_eq, eq-eqb}
+use Rattle.futures_buffered.proofs.Common.{option_to_list, FoldsTo, AllZip, slice_get, get_or-set_other, sum_by-cons, sum_by_push, cases_eq, eq-eqb, Poll, Ready, Pending, Slots, value_in, with_value, with_slot_freed, Inserts, Woke, Passes, Yields, held_in, PollOneOf, itself, apart, value_in-with_value, value_inserted, value_inserted_other, value_in-with_slot_freed_other, PollsNumbered, held_with, one_at, AddsBack, Entry, IsUnused, Kept, LastStep, OrderedGives, Running, SetYields, runs_with, OrderedBounded, PushesNumber, SetGives, Numbered, count-names, in_slots, none_held, numbers_inserted, numbers_polled, unused_none, ReadySourceOf, SlotFutureOf, OnlyPushes, StreamOf, Accounts, PollsStream, output_given, PendsTo, MayGiveInSlot, BecomesEntry, GivesInOrder, TryGivesInOrder, queue_len, PushesOk, same_Some}
 use Rattle.std.proofs.lemmas.Bool.Decides.{eqb_tells}
-use Rattle.futures.specs.declared.task.Poll.{Poll}
-use Rattle.futures.specs.declared.task.Poll.TheVariants.{Ready, Pending}
-use Rattle.futures_buffered_core.specs.SlotMap.{Slots, value_in, with_value, with_slot_freed, Inserts}
-use Rattle.futures_buffered_table.specs.declared.answer.Woke.{Woke}
-use Rattle.futures_buffered_unordered.specs.Held.{Passes, Yields}
-use Rattle.futures_buffered_unordered.specs.FuturesUnorderedBounded.{held_in}
-use Rattle.futures_buffered_unordered.specs.declared.poll_one.PollOne.{Ghosts as PollOneOf}
-use Rattle.futures_buffered_unordered.specs.PollsBounded.{itself}
-use Rattle.futures_buffered_unordered.proofs.HeldLemmas.{apart, value_in-with_value, value_inserted, value_inserted_other}
-use Rattle.futures_buffered_unordered.proofs.HeldGivesLemmas.{value_in-with_slot_freed_other}
-use Rattle.futures_buffered_ordered.specs.Numbered.{PollsNumbered, held_with, one_at}
-use Rattle.futures_buffered_ordered.specs.OrderedEntries.{AddsBack, Entry, IsUnused, Kept, LastStep, OrderedGives, Running, SetYields, runs_with}
-use Rattle.futures_buffered_ordered.specs.FuturesOrderedBounded.{OrderedBounded, PushesNumber, SetGives}
-use Rattle.futures_buffered_ordered.specs.declared.numbered.Numbered.{Numbered}
-use Rattle.futures_buffered_ordered.proofs.NumberedLemmas.{count-names, in_slots, none_held, numbers_inserted, numbers_polled}
 use Rattle.futures_buffered_ordered.proofs.OrderedEntriesInvariantLemmas.{runs-set}
-use Rattle.futures_buffered_ordered.proofs.OrderedEntriesLemmas.{unused_none}
-use Rattle.futures_buffered_core.specs.declared.ready_source.ReadySource.{Ghosts as ReadySourceOf}
-use Rattle.futures_buffered_unordered.specs.declared.slot_future.SlotFuture.{Ghosts as SlotFutureOf}
-use Rattle.futures_buffered.specs.FutureQueue.{OnlyPushes}
-use Rattle.futures_buffered.specs.Buffer.{StreamOf, Accounts, PollsStream, output_given}
-use Rattle.futures_buffered.specs.BufferUnordered.{PendsTo, MayGiveInSlot}
-use Rattle.futures_buffered.specs.BufferedOrdered.{BecomesEntry, GivesInOrder, TryGivesInOrder, queue_len}
-use Rattle.futures_buffered.specs.TryBuffer.{PushesOk}
 use Rattle.futures_buffered.proofs.BufferAccountLemmas.{many_calls}
 use Rattle.futures_buffered.proofs.TryBufferAccountLemmas.{AmongErrors, error_handed, ok_drew, queue_gave}
 use Rattle.futures_buffered.proofs.BufferedOrderedLemmas.{one_slot}
-use Rattle.futures_buffered.proofs.BufferUnorderedAccountLemmas.{waits_more}
-
-Some-same : {F : Type 0} {f g : F} → Some f ≡ Some g → f ≡ g
-Some-same e = cc
+use Rattle.futures_buffered.proofs.BufferUnorderedAccountLemmas.{waits_more, zip_push}
 
 running_same : {A : Type 0} {i j : ℕ} → ◌≡◌ {A = Option (Entry A)} (Some (Running i)) (Some (Running j)) → i ≡ j
 running_same e = cc
 
 not_running : {X A : Type 0} {x : A} {i : ℕ} → ◌≡◌ {A = Option (Entry A)} (Some (Kept x)) (Some (Running i)) → X
 not_running e = cc
-
-zip_push : {E G : Type 0} (P : E → G → Type 0) (es : List E) (gs : List G) (e : E) (g : G) → AllZip P es gs → P e g → AllZip P (es ++ e ∷ []) (gs ++ g ∷ [])
-zip_push P [] [] e g zip p = (p, tt)
-zip_push P [] (d ∷ gs) e g zip p = absurd zip
-zip_push P (d ∷ es) [] e g zip p = absurd zip
-zip_push P (c ∷ es) (d ∷ gs) e g zip p = (zip.0, zip_push P es gs e g zip.1 p)
 
 counts_itself : (i : ℕ) → one_at i i ≡ 1
 counts_itself i = ap (λ (b : Bool). cond b 1 0) (eq-eqb i i refl)
@@ -98,7 +62,7 @@ module _ {F A : Type 0} (polled : ℕ → F → Poll A → F → Type 0) where
     where
       here : value_in m s ≡ Some (record { future = came.1; number = j }) → PendsTo (polled s) f came.1 → BecomesEntry polled (with_value m s left) f (Running j)
       here found waits =
-          let is : g ≡ record { future = came.1; number = j } = Some-same (sym held ∙ found) in
+          let is : g ≡ record { future = came.1; number = j } = same_Some _ _ (sym held ∙ found) in
           let number : left.number ≡ j = p.1 ∙ ap (λ (n : Numbered F). n.number) is in
           let pends : polled s came.1 Pending left.future = subst (λ (n : Numbered F). polled s n.future Pending left.future) is p.0 in
           (s, left.future, value_in-with_value m s g left (sym held) ∙ ap (λ (n : ℕ). Some (record { future = left.future; number = n })) number, waits_more (polled s) f came.1 left.future waits pends)
@@ -122,7 +86,7 @@ module _ {F A : Type 0} (polled : ℕ → F → Poll A → F → Type 0) where
     -- the slot of an output was emptied
     other_on : (j : ℕ) (f : F) → j ≢ i → BecomesEntry polled m f (Running j) → BecomesEntry polled (with_slot_freed w s) f (Running j)
     other_on j f other came =
-        let apart : came.0 ≢ s = λ same. other (sym (ap (λ (n : Numbered F). n.number) (Some-same (sym gave.held ∙ (ap (λ (n : ℕ). value_in m n) (sym same) ∙ came.2)))) ∙ has_number) in
+        let apart : came.0 ≢ s = λ same. other (sym (ap (λ (n : Numbered F). n.number) (same_Some _ _ (sym gave.held ∙ (ap (λ (n : ℕ). value_in m n) (sym same) ∙ came.2)))) ∙ has_number) in
         (came.0, came.1, ap (λ (v : Slots (Numbered F)). value_in (with_slot_freed v s) came.0) gave.now_holds ∙ (value_in-with_slot_freed_other (with_value m s gave.left) s came.0 apart ∙ (get_or-set_other m.places s came.0 (Some gave.left) None apart ∙ came.2)), came.3)
 
     others_on : (fs : List F) (es : List (Entry A)) → count_by (runs_with i) es ≡ 0 → AllZip (BecomesEntry polled m) fs es → AllZip (BecomesEntry polled (with_slot_freed w s)) fs es
@@ -138,7 +102,7 @@ module _ {F A : Type 0} (polled : ℕ → F → Poll A → F → Type 0) where
     gave_here : (f : F) → in_slots i m ≤ 1 → BecomesEntry polled m f (Running i) → MayGiveInSlot polled f x
     gave_here f one came =
         let same : came.0 ≡ s = one_slot i m s came.0 gave.value _ gave.held has_number came.2 refl one in
-        let is : came.1 ≡ gave.value.future = ap (λ (n : Numbered F). n.future) (Some-same (sym came.2 ∙ (ap (λ (n : ℕ). value_in m n) same ∙ gave.held))) in
+        let is : came.1 ≡ gave.value.future = ap (λ (n : Numbered F). n.future) (same_Some _ _ (sym came.2 ∙ (ap (λ (n : ℕ). value_in m n) same ∙ gave.held))) in
         let waits : PendsTo (polled s) f gave.value.future = subst (λ (v : F). PendsTo (polled s) f v) is (subst (λ (n : ℕ). PendsTo (polled n) f came.1) same came.3) in
         (s, (waits.0, gave.value.future, gave.left.future, waits.1, gave.gave.0))
 

@@ -1,34 +1,7 @@
 -- What a push, and one poll, leave of an ordered queue as what a buffer holds.
 use Rattle.std.proofs.Common.{◌≡◌, ◌⊎◌, ℕ, ◌≤◌, List, [], ◌∷◌, length, Option, Some, None, ◌<◌, true, refl, sym, ap, subst, inl, inr, arith, ◌∙◌, set, get_or, map, cond, Bool, IsSome}
-use Rattle.std.specs.List.{FoldsTo, sum_by}
-use Rattle.std.proofs.lemmas.Bool.{cases_eq, eq-eqb}
-use Rattle.std.proofs.lemmas.List.{get_or-set_other}
-use Rattle.std.proofs.lemmas.List.Sums.{get_or-le-sum_by, sum_by-set}
-use Rattle.futures.specs.Task.{Covers}
-use Rattle.futures.specs.declared.task.context.Context.{Context}
-use Rattle.futures.specs.declared.task.Poll.{Poll}
-use Rattle.futures.specs.declared.task.Poll.TheVariants.{Ready, Pending}
-use Rattle.futures.specs.Poll.{OnPending}
-use Rattle.futures_buffered_core.specs.SlotMap.{Slots, value_in}
+use Rattle.futures_buffered.proofs.Common.{FoldsTo, sum_by, cases_eq, eq-eqb, get_or-set_other, get_or-le-sum_by, sum_by-set, Covers, Context, Poll, Ready, Pending, OnPending, Slots, value_in, Woke, MayGive, held_in, AllHeld-push, value_inserted, value_inserted_other, CanPollFuture, PollsNumbered, held_with, AddsBack, ComesInOrder, EachHasOne, Entry, OrderedGives, starts_running, EachRunning, OrderedBounded, PollsOrderedBounded, PushesNumber, SetGives, SetMayGive, ReadySourceOf, PollOneOf, Numbered, in_slot, in_slots, comes_behind, no_more_of, unused_none, AddsOutput, MayGiveInSlot, queue_len, queue_slots, same_Some}
 use Rattle.futures_buffered_core.proofs.SlotMapLemmas.{value_within}
-use Rattle.futures_buffered_table.specs.declared.answer.Woke.{Woke}
-use Rattle.futures_buffered_unordered.specs.Held.{MayGive}
-use Rattle.futures_buffered_unordered.specs.FuturesUnorderedBounded.{held_in}
-use Rattle.futures_buffered_unordered.proofs.HeldLemmas.{AllHeld-push, value_inserted, value_inserted_other}
-use Rattle.futures_buffered_ordered.specs.Numbered.{CanPollFuture, PollsNumbered, held_with}
-use Rattle.futures_buffered_ordered.specs.OrderedEntries.{AddsBack, ComesInOrder, EachHasOne, Entry, OrderedGives, starts_running}
-use Rattle.futures_buffered_ordered.specs.FuturesOrderedBounded.{EachRunning, OrderedBounded, PollsOrderedBounded, PushesNumber, SetGives, SetMayGive}
-use Rattle.futures_buffered_core.specs.declared.ready_source.ReadySource.{Ghosts as ReadySourceOf}
-use Rattle.futures_buffered_unordered.specs.declared.poll_one.PollOne.{Ghosts as PollOneOf}
-use Rattle.futures_buffered_ordered.specs.declared.numbered.Numbered.{Numbered}
-use Rattle.futures_buffered_ordered.proofs.NumberedLemmas.{in_slot, in_slots}
-use Rattle.futures_buffered_ordered.proofs.OrderedEntriesLemmas.{comes_behind, no_more_of, unused_none}
-use Rattle.futures_buffered.specs.FutureQueue.{AddsOutput}
-use Rattle.futures_buffered.specs.BufferUnordered.{MayGiveInSlot}
-use Rattle.futures_buffered.specs.BufferedOrdered.{queue_len, queue_slots}
-
-Some-same : {F : Type 0} {f g : F} → Some f ≡ Some g → f ≡ g
-Some-same e = cc
 
 module _ {F : Type 0} (i : ℕ) where
   one_here : (o : Option (Numbered F)) (f : Numbered F) → o ≡ Some f → f.number ≡ i → in_slot i o ≡ 1
@@ -85,7 +58,7 @@ module _ {F A S : Type 0} (polled : ℕ → F → Poll A → F → Type 0) (mark
   now_or_before s f found =
       let into = added.1.pushed.1.inserted in
       elim (cases_eq s slot) [
-        | inl same ↦ inl (same, Some-same (sym found ∙ (ap (λ (n : ℕ). value_in new.set.slots n) same ∙ value_inserted old.set.slots new.set.slots slot put into)))
+        | inl same ↦ inl (same, same_Some _ _ (sym found ∙ (ap (λ (n : ℕ). value_in new.set.slots n) same ∙ value_inserted old.set.slots new.set.slots slot put into)))
         | inr other ↦ inr (sym (value_inserted_other old.set.slots new.set.slots slot put into s other) ∙ found)
       ]
 

@@ -1,19 +1,7 @@
 -- What one turn of a for-each leaves.
-use Rattle.std.proofs.Common.{◌≡◌, ◌⊎◌, is_some, ℕ, ◌<◌, ◌≤◌, [], ◌∷◌, Option, Some, None, Bool, true, false, refl, inl, inr, arith, length, ◌∙◌}
+use Rattle.std.proofs.Common.{◌≡◌, ◌⊎◌, is_some, ℕ, ◌<◌, ◌≤◌, [], ◌∷◌, Option, Some, None, Bool, true, false, refl, inl, inr, arith, length, ◌∙◌, IfSome}
+use Rattle.futures_buffered.proofs.Common.{chained_keeps, Covers, Keeps, OnPending, Context, Poll, Ready, Pending, Calls, firsts, IsWoken, stream_of, Buffering, DrawsTask, FutureQueueOf, PollsStream, StreamOf, WaitsAt, PollsFutureQueue, PushLeavesQueue, PollsInTurns, TakesTurn, TurnLeaves, so_far, DrawsNone, AsksStream}
 use Rattle.std.specs.Fn.{Mut}
-use Rattle.std.specs.Prelude.{IfSome}
-use Rattle.std.proofs.lemmas.Fn.{chained_keeps}
-use Rattle.futures.specs.Task.{Covers, Keeps}
-use Rattle.futures.specs.Poll.{OnPending}
-use Rattle.futures.specs.declared.task.context.Context.{Context}
-use Rattle.futures.specs.declared.task.Poll.{Poll}
-use Rattle.futures.specs.declared.task.Poll.TheVariants.{Ready, Pending}
-use Rattle.futures.specs.Runs.{After, Calls, Within, firsts}
-use Rattle.futures_buffered_unordered.specs.FuturesUnorderedBounded.{IsWoken}
-use Rattle.futures_buffered_unordered.specs.StreamAnswers.{stream_of}
-use Rattle.futures_buffered.specs.Buffer.{Buffering, DrawsTask, FutureQueueOf, PollsStream, StreamOf, WaitsAt}
-use Rattle.futures_buffered.specs.FutureQueue.{PollsFutureQueue, PushLeavesQueue}
-use Rattle.futures_buffered.specs.Turns.{PollsInTurns, TakesTurn, TurnLeaves, so_far}
 use Rattle.futures_buffered.specs.ForEachConcurrent.{ForEach, TurnGives, DrawsOnce, turn_answer, CanForEach, MayEnd, for_each_of}
 use Rattle.futures_buffered.proofs.TurnsLemmas.{GoesOn}
 use Rattle.futures_buffered.proofs.BufferLemmas.{pending_covers, empty_covers}
@@ -24,30 +12,35 @@ push_limit count room limit pushes old item None new keeps pushed push = keeps p
 push_limit count room limit pushes old item (Some x) new keeps pushed push = rw push.stays refl
 
 module _ {St X Fn F Q : Type 0} (stream : StreamOf St X) (closure : Mut Fn (X × Unit {0}) F) (queue : FutureQueueOf Q F (Unit {0})) where
-  pub draws_item : (old : ForEach St Fn Q) (s left : St) (x : X) (q q2 : Q) (f f1 : Fn) (made : F) (given : Option (Unit {0})) → old ≡ record { buffer = record { stream = Some s; queue = q }; closure = f } → queue.count q < queue.room q → PollsStream stream.yields s (Ready (Some x)) left → Calls closure f x made f1 → queue.pushes q made given q2
-      → (item : Option X) × (is_some item ≡ true) × DrawsOnce stream closure queue old item (record { buffer = record { stream = Some left; queue = q2 }; closure = f1 })
-  draws_item old s left x q q2 f f1 made given is room answers called pushed = rw is (Some x, refl, (made, given, called, record { left = left; asks = record { stream = s; not_ended = refl; has_room = room; answers = answers }; stream_left = refl; pushed = pushed }))
+  -- what the first part of a turn leaves that took no item
+  pub none_each : (b new : Buffering St Q) (f : Fn) → DrawsNone (PollsStream stream.yields) queue.count (queue.room b.queue) b new → IfSome new.stream stream.can_poll → CanForEach stream closure queue (record { buffer = b; closure = f })
+      → CanForEach stream closure queue (record { buffer = new; closure = f }) × (MayEnd stream (record { buffer = new; closure = f }) → MayEnd stream (record { buffer = b; closure = f }))
+  none_each b new f (inl h) next can = rw h.1 (can, λ ends. ends)
+  none_each b new f (inr (inl (left, asks, is))) next can =
+      let was : CanForEach stream closure queue (record { buffer = record { stream = Some asks.stream; queue = b.queue }; closure = f }) = rw asks.not_ended at can in
+      rw (is, asks.not_ended) (
+        record { next = rw is at next; to_come = record { at = λ ps g y h t. was.to_come.at ps g y (asks.answers.same (firsts ps) (Some y) h) t }; held = was.held },
+        λ ends. (ends.0, asks.answers.same ends.0 None ends.1),
+      )
+  none_each b new f (inr (inr (left, asks, is))) next can =
+      rw (is, asks.not_ended) (
+        record { next = tt; to_come = record { at = λ ps g y h t. let never = h.1 in cc }; held = can.held },
+        λ _. ([], asks.answers.value),
+      )
 
-  pub draws_end : (old : ForEach St Fn Q) (s left : St) (q : Q) (f : Fn) → old ≡ record { buffer = record { stream = Some s; queue = q }; closure = f } → queue.count q < queue.room q → PollsStream stream.yields s (Ready None) left
-      → (item : Option X) × (is_some item ≡ false) × DrawsOnce stream closure queue old item (record { buffer = record { stream = None; queue = q }; closure = f })
-  draws_end old s left q f is room answers = rw is (None, refl, (inr (inr (left, record { stream = s; not_ended = refl; has_room = room; answers = answers }, refl)), refl))
+  -- what a turn leaves that took this item, by what its poll of the stream returned
+  module _ (s : Option St) (left : St) (x : X) (q : Q) (f : Fn) (asks : AsksStream (PollsStream stream.yields) queue.count (queue.room q) (record { stream = s; queue = q }) (Ready (Some x)) left) where
+    pub item_each : (q2 : Q) (f1 : Fn) (made : F) → CanForEach stream closure queue (record { buffer = record { stream = s; queue = q }; closure = f }) → queue.can_poll q2 → Calls closure f x made f1 → stream.can_poll left
+        → CanForEach stream closure queue (record { buffer = record { stream = Some left; queue = q2 }; closure = f1 })
+    item_each q2 f1 made can again called next =
+        let was : CanForEach stream closure queue (record { buffer = record { stream = Some asks.stream; queue = q }; closure = f }) = rw asks.not_ended at can in
+        record { next = next; to_come = record { at = λ ps g y h t. was.to_come.at ((x, made) ∷ ps) g y (asks.answers.rest (firsts ps) (Some y) h) (f1, called, t) }; held = again }
 
-  pub draws_pending : (old : ForEach St Fn Q) (s left : St) (q : Q) (f : Fn) → old ≡ record { buffer = record { stream = Some s; queue = q }; closure = f } → queue.count q < queue.room q → PollsStream stream.yields s Pending left
-      → (item : Option X) × (is_some item ≡ false) × DrawsOnce stream closure queue old item (record { buffer = record { stream = Some left; queue = q }; closure = f })
-  draws_pending old s left q f is room answers = rw is (None, refl, (inr (inl (left, record { stream = s; not_ended = refl; has_room = room; answers = answers }, refl)), refl))
+    pub item_ends : (q2 : Q) (f1 : Fn) → MayEnd stream (record { buffer = record { stream = Some left; queue = q2 }; closure = f1 }) → MayEnd stream (record { buffer = record { stream = s; queue = q }; closure = f })
+    item_ends q2 f1 ends = rw asks.not_ended (x ∷ ends.0, asks.answers.rest ends.0 None ends.1)
 
-  pub each_item_can : (old : ForEach St Fn Q) (s left : St) (x : X) (q q2 : Q) (f f1 : Fn) (made : F) → old ≡ record { buffer = record { stream = Some s; queue = q }; closure = f } → CanForEach stream closure queue old
-      → queue.can_poll q2 → Calls closure f x made f1 → After (stream.yields s) x (stream.yields left) → stream.can_poll left
-      → CanForEach stream closure queue (record { buffer = record { stream = Some left; queue = q2 }; closure = f1 })
-  each_item_can old s left x q q2 f f1 made is can_old again called rest next =
-      let can : CanForEach stream closure queue (record { buffer = record { stream = Some s; queue = q }; closure = f }) = rw is at can_old in
-      record { next = next; to_come = record { at = λ ps g y h t. can.to_come.at ((x, made) ∷ ps) g y (rest (firsts ps) (Some y) h) (f1, called, t) }; held = again }
-
-  pub each_pending_can : (old : ForEach St Fn Q) (s left : St) (q : Q) (f : Fn) → old ≡ record { buffer = record { stream = Some s; queue = q }; closure = f } → CanForEach stream closure queue old → Within (stream.yields s) (stream.yields left) → stream.can_poll left
-      → CanForEach stream closure queue (record { buffer = record { stream = Some left; queue = q }; closure = f })
-  each_pending_can old s left q f is can_old same next =
-      let can : CanForEach stream closure queue (record { buffer = record { stream = Some s; queue = q }; closure = f }) = rw is at can_old in
-      record { next = next; to_come = record { at = λ ps g y h t. can.to_come.at ps g y (same (firsts ps) (Some y) h) t }; held = can.held }
+    pub each_fit : CanForEach stream closure queue (record { buffer = record { stream = s; queue = q }; closure = f }) → closure.pre f (x, tt) × ((made : F) (after : Fn) → Calls closure f x made after → queue.is_fit made)
+    each_fit can = (rw asks.not_ended at can.to_come).at [] f x asks.answers.value refl
 
   module _ (limit : Q → ℕ) where
     abbrev PollsQueue : Q → Poll (Option (Unit {0})) → Q → Context → Context → Type 0
@@ -126,7 +119,3 @@ module _ {St X Fn F Q : Type 0} (stream : StreamOf St X) (closure : Mut Fn (X ×
             → (queue.room new.buffer.queue ≡ queue.room old.buffer.queue) × (queue.count new.buffer.queue ≤ queue.room new.buffer.queue)
         by_ends (inl last) = (last.1.same_room ∙ so.0, last.1.bound)
         by_ends (inr last) = rw last.2 (so.0, so.1 (omega (arith, last.0, poll.some)))
-
-pub item_ends : {St X Fn Q : Type 0} (stream : StreamOf St X) (old : ForEach St Fn Q) (s left : St) (x : X) (q q2 : Q) (f f1 : Fn) → old ≡ record { buffer = record { stream = Some s; queue = q }; closure = f } → After (stream.yields s) x (stream.yields left)
-    → MayEnd stream (record { buffer = record { stream = Some left; queue = q2 }; closure = f1 }) → MayEnd stream old
-item_ends stream old s left x q q2 f f1 is rest gives = rw is (x ∷ gives.0, rest gives.0 None gives.1)

@@ -1,17 +1,7 @@
 -- What a push and a poll of futures in flight are to a buffer.
-use Rattle.std.proofs.Common.{◌≡◌, ◌<◌, ℕ, List, [], inl, inr, length, Option, Some, None, is_some, cond, false, true, ap, refl, sym, subst, arith}
-use Rattle.std.proofs.lemmas.List.{get_or_past}
-use Rattle.std.proofs.lemmas.List.Sums.{get_or-le-sum_by}
-use Rattle.std.proofs.lemmas.Bool.{cases_lt}
-use Rattle.futures.specs.declared.task.Poll.{Poll}
-use Rattle.futures.specs.declared.task.Poll.TheVariants.{Ready, Pending}
-use Rattle.futures.specs.declared.task.context.Context.{Context}
-use Rattle.futures.specs.Poll.{OnPending}
-use Rattle.futures_buffered_core.specs.SlotMap.{Slots, value_in, held_count}
-use Rattle.futures_buffered_unordered.specs.StreamAnswers.{stream_of}
-use Rattle.futures_buffered_unordered.proofs.HeldGivesLemmas.{Gathers-Within, Gathers-After}
+use Rattle.std.proofs.Common.{◌≡◌, ◌<◌, ℕ, List, [], inl, inr, length, Option, Some, None, false, true, ap, refl, sym, subst, arith}
+use Rattle.futures_buffered.proofs.Common.{Poll, Ready, Pending, Context, OnPending, Slots, held_count, stream_of, Gathers-Within, Gathers-After, Entry, Ordered, AddsOutput, PollsFutureQueue, PushAddsOutput, PushLeavesQueue}
 use Rattle.futures_buffered_in_flight.specs.InFlight.{AnySlotGives, ComesFromSlots, Flights, FlightsWaitAt, FutureOf, flight_slots}
-use Rattle.futures_buffered_ordered.specs.OrderedEntries.{Entry, Ordered}
 use Rattle.futures_buffered_in_flight.specs.InFlightOrdered.{AnswersInTurn, CanPollOrdered, ComesOfEach, EntersBack, OrderedWaitsAt, ordered_room}
 use Rattle.futures_buffered_in_flight.specs.declared.in_flight.Came.{Came}
 use Rattle.futures_buffered_in_flight.specs.declared.in_flight.Place.{Place}
@@ -20,16 +10,8 @@ use Rattle.futures_buffered_in_flight.proofs.InFlightOrderedLemmas.{answers_in_t
 pub use Rattle.futures_buffered_in_flight.proofs.InFlightQueueLemmas.{new_can_poll}
 use Rattle.futures_buffered_in_flight.proofs.InFlightQueueLemmas.{added_gives, added_one, flight_count, kept_room, polled_room}
 use Rattle.futures_buffered_in_flight.specs.InFlightQueue.{CanPollQueue, PollsQueued, PushesQueued}
-use Rattle.futures_buffered.specs.FutureQueue.{AddsOutput, PollsFutureQueue, PushAddsOutput, PushLeavesQueue}
 use Rattle.futures_buffered.proofs.BufferedOrderedLemmas.{starts_some}
-
-some_held : {P : Type 0} (m : Slots P) (i : ℕ) (p : P) → value_in m i ≡ Some p → 0 < held_count m
-some_held {P} m i p found =
-    let within : i < length m.places = elim (cases_lt i (length m.places)) [
-      | inl below ↦ below
-      | inr past ↦ let none : value_in m i ≡ None = get_or_past m.places i None past in cc
-    ] in
-    omega (arith, rw found at (get_or-le-sum_by (λ (o : Option P). cond (is_some o) 1 0) m.places i None within))
+use Rattle.futures_buffered.proofs.BufferUnorderedLemmas.{some_held}
 
 -- how many an ordered queue holds
 abbrev entry_count : {F A : Type 0} → Ordered (Flights F ℕ) A → ℕ

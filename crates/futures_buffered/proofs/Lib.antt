@@ -1,3 +1,4 @@
+pub mod Common
 pub mod BufferLemmas
 pub mod BufferUnorderedLemmas
 pub mod BufferedOrderedLemmas

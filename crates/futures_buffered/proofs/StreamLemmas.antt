@@ -1,16 +1,11 @@
 -- What came from iterators, queues, streams of futures and joins that have ended.
 use Rattle.std.proofs.Common.{◌≡◌, ℕ, List, [], ◌∷◌, map, length, Option, Some, None, Ok, MatchOption, IsSomeAnd, inl, inr, refl, sym, subst, ap, ◌∙◌}
+use Rattle.futures_buffered.proofs.Common.{map-id, length-replicate, Poll, Runs, Turns, Resolves, Chains, firsts, seconds, Ahead, InTurn, Bounded, HoldsEach}
 use Rattle.std.specs.Iterator.{Drains}
 use Rattle.std.specs.Vec.Iter.{into_iter_items, into_iter_len, into_iter_steps}
 use Rattle.std.specs.declared.vec.IntoIter.{IntoIter}
 use Rattle.std.proofs.lemmas.Iterator.{items_from_drains}
 use Rattle.std.proofs.lemmas.Iterator.Adapters.{YieldsList-from_vec}
-use Rattle.std.proofs.lemmas.List.{map-id, length-replicate}
-use Rattle.futures.specs.declared.task.Poll.{Poll}
-use Rattle.futures.specs.Runs.{Runs, Turns, Resolves, Chains, firsts, seconds}
-use Rattle.futures_buffered.specs.Buffer.{Ahead}
-use Rattle.futures_buffered_ordered.specs.OrderedEntries.{InTurn}
-use Rattle.futures_buffered_unordered.specs.FuturesUnorderedBounded.{Bounded, HoldsEach}
 use Rattle.futures_buffered_joins.specs.Join.{IsNewJoin, JoinMayGive}
 use Rattle.futures_buffered_joins.specs.JoinRule.{kept_as_it_is}
 use Rattle.futures_buffered_joins.specs.SlotsJoin.{MayGiveAt}

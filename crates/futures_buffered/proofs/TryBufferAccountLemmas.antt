@@ -1,13 +1,7 @@
 -- What many calls give where the stream gives errors as well, over any queue of which one knows what a push and a poll account for.
 use Rattle.std.proofs.Common.{◌≡◌, List, [], ◌∷◌, ◌++◌, map, Option, Some, None, Result, Ok, Err, refl, ap, inl, inr, append-nil}
-use Rattle.std.specs.Option.{option_to_list}
-use Rattle.std.proofs.lemmas.List.{map-append}
-use Rattle.futures.specs.declared.task.Poll.{Poll}
-use Rattle.futures.specs.declared.task.Poll.TheVariants.{Ready, Pending}
+use Rattle.futures_buffered.proofs.Common.{option_to_list, map-append, Poll, Ready, Pending, output_given, OnlyPushes, PushesOk, WithErrors, futures_of}
 use Rattle.futures_buffered_unordered.specs.Interleaves.{Interleaves}
-use Rattle.futures_buffered.specs.Buffer.{output_given}
-use Rattle.futures_buffered.specs.FutureQueue.{OnlyPushes}
-use Rattle.futures_buffered.specs.TryBuffer.{PushesOk, WithErrors, futures_of}
 
 futures_push : {F E : Type 0} (items : List (Result F E)) (f : F) → futures_of (items ++ Ok f ∷ []) ≡ futures_of items ++ f ∷ []
 futures_push [] f = refl

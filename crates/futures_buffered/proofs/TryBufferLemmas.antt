@@ -1,8 +1,5 @@
 -- What a push adds to what may come from a queue to which errors are given as well.
-use Rattle.std.proofs.Common.{Bool, false, Option, Some, None, Result, Ok, Err, refl}
-use Rattle.futures.specs.Runs.{Runs}
-use Rattle.futures_buffered.specs.FutureQueue.{PushAddsOutput}
-use Rattle.futures_buffered.specs.TryBuffer.{TryItemGives}
+use Rattle.futures_buffered.proofs.Common.{Bool, false, Option, Some, None, Result, Ok, Err, refl, Runs, PushAddsOutput, TryItemGives}
 use Rattle.futures_buffered.proofs.BufferLemmas.{adds_anywhere}
 
 -- a future was pushed

@@ -1,9 +1,5 @@
 -- What turns one after another leave.
-use Rattle.std.proofs.Common.{◌∙◌, None}
-use Rattle.futures.specs.declared.task.context.Context.{Context}
-use Rattle.futures.specs.declared.task.Poll.{Poll}
-use Rattle.futures.specs.declared.task.Poll.TheVariants.{Ready, Pending}
-use Rattle.futures_buffered.specs.Turns.{TurnsOf, TurnLeaves}
+use Rattle.futures_buffered.proofs.Common.{◌∙◌, None, Context, Poll, Ready, Pending, TurnsOf, TurnLeaves}
 
 -- a turn after which another may follow
 abbrev pub GoesOn : {V A : Type 0} → TurnsOf V A → V × Context → Unit {0} → V × Context → Type 0

@@ -1,23 +1,16 @@
 -- One call of a buffer, what many calls make together, and what may come. A call takes items from a stream while there
 -- is room. Then it polls its queue once, unless a push returned an answer. The queue may be any that has a number of
 -- entries, a push and a poll.
+use Rattle.futures_buffered.specs.Below.{Continue, Break, FoldsTo, AllZip, Coded, code_by, coded×, coded_option, Covers}
+use Rattle.futures_buffered.specs.Below.{Keeps, Context, Poll, Ready, Pending, IfReady, OnPending, StreamAnswers}
 use Rattle.std.specs.Prelude.{◌≡◌, ℕ, ◌+◌, ◌-◌, ◌<◌, ◌≤◌, ◌^◌, List, [], ◌++◌, Option, Some, None, IfSome, IfNone}
 use Rattle.std.specs.Prelude.{IsSomeAnd, is_some, Bool, true, false, ◌⊎◌, cond, min, nat_lt, refl, filter_map, flat_map}
 use Rattle.std.specs.declared.ops.ControlFlow.{ControlFlow}
-use Rattle.std.specs.declared.ops.ControlFlow.TheVariants.{Continue, Break}
 use Rattle.std.specs.Option.{option_and_then}
-use Rattle.std.specs.List.{FoldsTo, AllZip}
-use Rattle.std.specs.Coded.{Coded, code_by, coded×, coded_option}
-use Rattle.futures.specs.Task.{Covers, Keeps}
-use Rattle.futures.specs.declared.task.context.Context.{Context}
-use Rattle.futures.specs.declared.task.Poll.{Poll}
-use Rattle.futures.specs.declared.task.Poll.TheVariants.{Ready, Pending}
-use Rattle.futures.specs.Poll.{IfReady, OnPending}
 use Rattle.futures.specs.Runs.{Runs, After, Within, Ends, AllItems, Chains, Resolves}
 use Rattle.futures.specs.Buffered.{AnyItemGives, GathersWith}
-pub use Rattle.futures.specs.declared.stream.Stream.{Ghosts as StreamOf}
-use Rattle.futures_buffered_unordered.specs.StreamAnswers.{StreamAnswers}
 use Rattle.futures_buffered.specs.FutureQueue.{MayCome}
+pub use Rattle.futures.specs.declared.stream.Stream.{Ghosts as StreamOf}
 pub use Rattle.futures_buffered.specs.declared.future_queue.FutureQueue.{Ghosts as FutureQueueOf}
 
 -- the stream, or nothing once it has ended, and the queue of what was taken
@@ -62,8 +55,7 @@ output_given Pending = None
 
 module _ {St A Q : Type 0} (polls : Q → Poll (Option A) → Q → Type 0) where
   -- the queue was polled once, and the stream was not
-  pub record AsksQueue (old : Buffering St Q) (answer : Poll (Option A))
-      (new : Buffering St Q) : Type 0 where
+  pub record AsksQueue (old : Buffering St Q) (answer : Poll (Option A)) (new : Buffering St Q) : Type 0 where
     pub queue_answer : Poll (Option A)
     pub polls_queue : polls old.queue queue_answer new.queue
     pub same_stream : new.stream ≡ old.stream
@@ -94,10 +86,14 @@ module _ {St X Q : Type 0} (next : St → Poll (Option X) → St → Type 0) (co
       ⊎ (((left : St) × AsksStream old Pending left × (new ≡ record old { stream = Some left }))
       ⊎ ((left : St) × AsksStream old (Ready None) left × (new ≡ record old { stream = None })))
 
+  -- no item was taken, or this one, which is not pushed yet
+  abbrev pub DrawsNext : Buffering St Q → Option X → Buffering St Q → Type 0
+  DrawsNext old None new = DrawsNone old new
+  DrawsNext old (Some item) new = (left : St) × AsksStream old (Ready (Some item)) left × (new.stream ≡ Some left)
+
   module _ {A : Type 0} (pushes : Q → X → Option A → Q → Type 0) where
     -- an item was taken, and its push returned this
-    pub record DrawsItem (given : Option A) (old : Buffering St Q) (item : X)
-        (new : Buffering St Q) : Type 0 where
+    pub record DrawsItem (given : Option A) (old : Buffering St Q) (item : X) (new : Buffering St Q) : Type 0 where
       pub left : St
       pub asks : AsksStream old (Ready (Some item)) left
       pub stream_left : new.stream ≡ Some left
@@ -117,8 +113,7 @@ module _ {St X Q : Type 0} (next : St → Poll (Option X) → St → Type 0) (co
 
     -- these items were taken one after another and pushed, each while fewer than `n` were held, and then filling ended;
     -- what was pushed stays held
-    pub record DrawsAll (old : Buffering St Q) (drawn : List X) (given : Option A)
-        (new : Buffering St Q) : Type 0 where
+    pub record DrawsAll (old : Buffering St Q) (drawn : List X) (given : Option A) (new : Buffering St Q) : Type 0 where
       pub full : Buffering St Q
       pub items : FoldsTo (DrawsItem None) old drawn full
       pub last : DrawsLast full given new
@@ -145,15 +140,8 @@ handed_back (Break given) = given
 
 -- What filling leaves of a buffer. `can_draw` says whether items may be taken, and `yields` what may come from the
 -- buffer. `gave` is the answer that a push returned, if one did.
-pub record DrawsBuffer
-    {St A Q : Type 0}
-    (count room : Q → ℕ)
-    (can_draw : Buffering St Q → Type 0)
-    (yields : Buffering St Q → Runs A)
-    (old : Buffering St Q)
-    (gave : Option A)
-    (new : Buffering St Q)
-    : Type 0 where
+pub record DrawsBuffer {St A Q : Type 0} (count room : Q → ℕ) (can_draw : Buffering St Q → Type 0)
+    (yields : Buffering St Q → Runs A) (old : Buffering St Q) (gave : Option A) (new : Buffering St Q) : Type 0 where
   -- the queue can hold as many as before
   pub same_room : room new.queue ≡ room old.queue
   -- the queue holds no more than that
@@ -168,15 +156,8 @@ pub record DrawsBuffer
   pub after : IfSome gave (λ x. After (yields old) x (yields new))
 
 -- What filling makes of the task, from `cx` to `left`. `none_came` holds if filling stopped because no item came.
-pub record DrawsTask
-    {St X Q : Type 0}
-    (next : St → Poll (Option X) → St → Type 0)
-    (count room : Q → ℕ)
-    (needs : St → ℕ → Type 0)
-    (none_came : Type 0)
-    (old new : Buffering St Q)
-    (cx left : Context)
-    : Type 0 where
+pub record DrawsTask {St X Q : Type 0} (next : St → Poll (Option X) → St → Type 0) (count room : Q → ℕ)
+    (needs : St → ℕ → Type 0) (none_came : Type 0) (old new : Buffering St Q) (cx left : Context) : Type 0 where
   -- if no item came and there is room left, the task is registered for the stream or woken, unless the stream has ended
   pub covered : none_came → count new.queue < room new.queue → IfSome new.stream (λ stream. Covers left (needs stream))
   -- if the stream was not polled, the task is unchanged
@@ -223,15 +204,8 @@ buffer_of stream queue = record {
 
 -- One call, which takes a buffer from `old` to `new` and the task from `cx` to `left`. A clause gives stream and queue
 -- by the ghost members of their types: `St.Stream Q.FutureQueue`.
-pub record PollsBuffer
-    {St X A Q : Type 0}
-    (stream : StreamOf St X)
-    (queue : FutureQueueOf Q X A)
-    (old : Buffering St Q)
-    (answer : Poll (Option A))
-    (new : Buffering St Q)
-    (cx left : Context)
-    : Type 0 where
+pub record PollsBuffer {St X A Q : Type 0} (stream : StreamOf St X) (queue : FutureQueueOf Q X A) (old : Buffering St Q)
+    (answer : Poll (Option A)) (new : Buffering St Q) (cx left : Context) : Type 0 where
   -- the task after filling, which keeps each earlier registration and wake, and is unchanged if the stream was not
   -- polled
   pub task_then : Context
@@ -283,8 +257,7 @@ hint_ahead hint None = (0, Some 0)
 hint_ahead hint (Some stream) = hint stream
 
 -- no item was taken: the stream is the given one, and the queue is a new one
-pub record IsNewBuffer {St Q : Type 0} (is_new : Q → Type 0) (stream : St)
-    (b : Buffering St Q) : Type 0 where
+pub record IsNewBuffer {St Q : Type 0} (is_new : Q → Type 0) (stream : St) (b : Buffering St Q) : Type 0 where
   pub same_stream : b.stream ≡ Some stream
   pub new_queue : is_new b.queue
 

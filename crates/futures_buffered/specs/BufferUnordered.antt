@@ -1,15 +1,9 @@
 -- What a contract sees of a `BufferUnordered`: the words on buffers at a bounded set.
+use Rattle.futures_buffered.specs.Below.{FoldsTo, Poll, Pending, Slots, ReadySourceOf, Bounded, Pushes, held_in}
+use Rattle.futures_buffered.specs.Below.{PollsBounded, itself, OfSomeTask}
 use Rattle.std.specs.Prelude.{◌≡◌, ℕ, List, Option, Result, IsPermutation, filter_map}
-use Rattle.std.specs.List.{FoldsTo}
-use Rattle.futures.specs.declared.task.Poll.{Poll}
-use Rattle.futures.specs.declared.task.Poll.TheVariants.{Pending}
-use Rattle.futures_buffered_core.specs.SlotMap.{Slots}
-use Rattle.futures_buffered_core.specs.declared.ready_source.ReadySource.{Ghosts as ReadySourceOf}
 use Rattle.futures_buffered_unordered.specs.declared.slot_future.SlotFuture.{Ghosts as SlotFutureOf}
 use Rattle.futures_buffered_unordered.specs.Held.{MayGive}
-use Rattle.futures_buffered_unordered.specs.FuturesUnorderedBounded.{Bounded, Pushes, held_in}
-use Rattle.futures_buffered_unordered.specs.PollsBounded.{PollsBounded, itself}
-use Rattle.futures_buffered_unordered.specs.StreamAnswers.{OfSomeTask}
 use Rattle.futures_buffered.specs.FutureQueue.{OnlyPushes}
 use Rattle.futures_buffered.specs.Buffer.{Buffering, StreamOf, PollsStream, CallsInTurn, Accounts, all_drawn}
 use Rattle.futures_buffered.specs.Buffer.{all_outputs}

@@ -1,13 +1,9 @@
 -- What a contract sees of a `BufferedOrdered`: the words on buffers at a bounded ordered queue.
+use Rattle.futures_buffered.specs.Below.{Poll, Slots, value_in, slot_count, ReadySourceOf, held_in, itself}
+use Rattle.futures_buffered.specs.Below.{OrderedBounded, PushesNumber, SetGives}
 use Rattle.std.specs.Prelude.{◌≡◌, ℕ, List, length, Option, Some, Result}
-use Rattle.futures.specs.declared.task.Poll.{Poll}
-use Rattle.futures_buffered_core.specs.SlotMap.{Slots, value_in, slot_count}
-use Rattle.futures_buffered_core.specs.declared.ready_source.ReadySource.{Ghosts as ReadySourceOf}
 use Rattle.futures_buffered_unordered.specs.declared.slot_future.SlotFuture.{Ghosts as SlotFutureOf}
-use Rattle.futures_buffered_unordered.specs.FuturesUnorderedBounded.{held_in}
-use Rattle.futures_buffered_unordered.specs.PollsBounded.{itself}
 use Rattle.futures_buffered_ordered.specs.OrderedEntries.{AddsBack, Entry, Kept, OrderedGives, Running}
-use Rattle.futures_buffered_ordered.specs.FuturesOrderedBounded.{OrderedBounded, PushesNumber, SetGives}
 use Rattle.futures_buffered_ordered.specs.declared.numbered.Numbered.{Numbered}
 use Rattle.futures_buffered.specs.FutureQueue.{OnlyPushes}
 use Rattle.futures_buffered.specs.Buffer.{StreamOf, Buffering, PollsStream, CallsInTurn, Accounts, all_drawn}

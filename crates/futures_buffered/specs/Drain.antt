@@ -1,16 +1,13 @@
 -- One call of a `Drain`: turns, each of which polls the buffer once, up to the first output that ends the drain, or
 -- `None`. A clause gives stream, queue and outputs by the ghost members of their types:
 -- `St.Stream Q.FutureQueue Q.Output.DrainOutput`.
+use Rattle.futures_buffered.specs.Below.{Coded, code_by, coded×, coded_option, coded_ℕ, Context, Poll, Ready, Pending}
+use Rattle.futures_buffered.specs.Below.{CanPollQueue}
 use Rattle.std.specs.Prelude.{◌≡◌, ℕ, List, map, Option, Some, None, IfSome, IsSomeAnd, refl}
-use Rattle.std.specs.Coded.{Coded, code_by, coded×, coded_option, coded_ℕ}
-use Rattle.futures.specs.declared.task.context.Context.{Context}
-use Rattle.futures.specs.declared.task.Poll.{Poll}
-use Rattle.futures.specs.declared.task.Poll.TheVariants.{Ready, Pending}
 use Rattle.futures_buffered.specs.Buffer.{Ahead, Buffering, FutureQueueOf, IsNewBuffer, PollsBuffer, StreamOf}
 use Rattle.futures_buffered.specs.Buffer.{buffer_of}
 use Rattle.futures_buffered.specs.Turns.{PollsInTurns, TurnsOf}
 use Rattle.futures_buffered_in_flight.specs.InFlight.{Flights, FutureOf}
-use Rattle.futures_buffered_in_flight.specs.InFlightQueue.{CanPollQueue}
 pub use Rattle.futures_buffered.specs.declared.drain_output.DrainOutput.{Ghosts as DrainOutputOf}
 
 -- the buffer, or nothing once the drain was ready, and how many turns one call takes at most

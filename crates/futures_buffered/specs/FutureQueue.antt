@@ -1,11 +1,9 @@
 -- What a push leaves of a queue of futures, and what a poll makes of it and of the task.
+use Rattle.futures_buffered.specs.Below.{Context, Poll, IfReady, OnPending, StreamAnswers}
 use Rattle.std.specs.Prelude.{◌≡◌, ℕ, ◌+◌, ◌<◌, ◌≤◌, List, Option, Some, None, IfSome, IfNone, OnSome, Bool, true}
 use Rattle.std.specs.Prelude.{false, ◌⊎◌}
-use Rattle.futures.specs.declared.task.context.Context.{Context}
-use Rattle.futures.specs.declared.task.Poll.{Poll}
-use Rattle.futures.specs.Poll.{IfReady, OnPending}
 use Rattle.futures.specs.Runs.{Runs, Within, Leads, Chains, Ends}
-use Rattle.futures_buffered_unordered.specs.StreamAnswers.{StreamAnswers, StreamOf}
+use Rattle.futures_buffered_unordered.specs.StreamAnswers.{StreamOf}
 
 -- `x` may come, at once or after other outputs
 abbrev pub MayCome : {A : Type 0} → Runs A → A → Type 0
@@ -23,13 +21,7 @@ OnlyPushes pushes old item (Some answer) new = ⊥
 
 -- What a push leaves of what a queue holds. `given` is the answer that the push returned, if any. `count` says how many
 -- the queue holds, and `room` how many it can hold.
-pub record PushLeavesQueue
-    {A Q : Type 0}
-    (count room : Q → ℕ)
-    (old : Q)
-    (given : Option A)
-    (new : Q)
-    : Type 0 where
+pub record PushLeavesQueue {A Q : Type 0} (count room : Q → ℕ) (old : Q) (given : Option A) (new : Q) : Type 0 where
   -- without an answer, the queue holds one more
   pub one_more : IfNone given (count new ≡ count old + 1)
   -- with an answer, the queue does not change
@@ -38,15 +30,8 @@ pub record PushLeavesQueue
   pub same_room : room new ≡ room old
 
 -- What a push adds to what may come from a queue, which `yields` says. `item_gives` holds of what the item may give.
-pub record PushAddsOutput
-    {A Q : Type 0}
-    (in_order : Bool)
-    (yields : Q → Runs A)
-    (item_gives : A → Type 0)
-    (old : Q)
-    (given : Option A)
-    (new : Q)
-    : Type 0 where
+pub record PushAddsOutput {A Q : Type 0} (in_order : Bool) (yields : Q → Runs A) (item_gives : A → Type 0) (old : Q)
+    (given : Option A) (new : Q) : Type 0 where
   -- without an answer, an output of the item may come, in addition to those that might come before
   pub adds : IfNone given (AddsOutput in_order (yields old) item_gives (yields new))
   -- an answer is one that the item may give
@@ -57,15 +42,8 @@ pub record PushAddsOutput
 -- One poll, which takes a queue from `old` to `new` and the task from `cx` to `left`. `polls` is what the queue says of
 -- each of its polls, `count` says how many it holds, and `room` how many it can hold. `stream` has its ghost members as
 -- a stream.
-pub record PollsFutureQueue
-    {A Q : Type 0}
-    (polls : Q → Poll (Option A) → Q → Context → Context → Type 0)
-    (count room : Q → ℕ)
-    (stream : StreamOf Q A)
-    (old : Q)
-    (answer : Poll (Option A))
-    (new : Q)
-    (cx left : Context)
+pub record PollsFutureQueue {A Q : Type 0} (polls : Q → Poll (Option A) → Q → Context → Context → Type 0)
+    (count room : Q → ℕ) (stream : StreamOf Q A) (old : Q) (answer : Poll (Option A)) (new : Q) (cx left : Context)
     : Type 0 where
   -- what the poll returns, and what it makes of the queue and of the task, by the queue's own relation
   pub polled : polls old answer new cx left

@@ -1,12 +1,6 @@
 -- One poll of a future that takes some turns.
+use Rattle.futures_buffered.specs.Below.{FoldsTo, Covers, Keeps, Context, Poll, Pending, IfReady, OnPending, IsWoken}
 use Rattle.std.specs.Prelude.{◌≡◌, ◌⊎◌, ℕ, ◌<◌, List, length, Option, Some, None, IfSome}
-use Rattle.std.specs.List.{FoldsTo}
-use Rattle.futures.specs.Task.{Covers, Keeps}
-use Rattle.futures.specs.declared.task.context.Context.{Context}
-use Rattle.futures.specs.declared.task.Poll.{Poll}
-use Rattle.futures.specs.declared.task.Poll.TheVariants.{Pending}
-use Rattle.futures.specs.Poll.{IfReady, OnPending}
-use Rattle.futures_buffered_unordered.specs.FuturesUnorderedBounded.{IsWoken}
 
 -- What a future says of its polls.
 pub record TurnsOf (V A : Type 0) : Type 1 where

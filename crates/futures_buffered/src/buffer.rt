@@ -1,11 +1,9 @@
 //! Some futures of a stream at a time, in any queue of futures.
-ghost use Rattle.std.specs.Prelude.{◌≡◌, ◌<◌, ◌≤◌, ◌↔◌, IsTrue, None, option_copied};
-ghost use Rattle.std.specs.declared.ops.ControlFlow.TheVariants.{Break};
-ghost use Rattle.futures_buffered_core.specs.Made.{MakesSlots};
-ghost use Rattle.futures_buffered.specs.Buffer.{DrawsOne, FillsBuffer, LeavesBuffer};
-ghost use Rattle.futures_buffered.specs.Buffer.{DrawingLeavesTask, buffer_of};
-ghost use Rattle.futures_buffered.specs.Buffer.{PollsBuffer, IsNewBuffer, answer_from, handed_back};
-ghost use Rattle.futures_buffered.specs.Buffer.{hint_with, hint_ahead};
+ghost use Rattle.futures_buffered.specs.Below.{Break, MakesSlots};
+ghost use Rattle.std.specs.Prelude.{◌≡◌, ◌<◌, ◌≤◌, ◌↔◌, IfSome, IsTrue, None, option_copied};
+ghost use Rattle.futures_buffered.specs.Buffer.{DrawsNext, DrawsOne, DrawsTask, FillsBuffer, LeavesBuffer, PollsStream};
+ghost use Rattle.futures_buffered.specs.Buffer.{DrawingLeavesTask, buffer_of, PollsBuffer, IsNewBuffer, answer_from};
+ghost use Rattle.futures_buffered.specs.Buffer.{handed_back, hint_with, hint_ahead};
 
 use crate::future_queue::{FutureQueue, NewQueue};
 use futures::Stream;
@@ -94,6 +92,37 @@ impl<St: Drop, Q: NewQueue<Env = (), Source = SharedReady>> Buffer<St, Q> {
     }
 }
 
+// Takes one item, if the stream has not ended, there is room, and an item comes. Drops a stream that ends.
+pub(crate) fn next_item<St: Stream, I, Q: FutureQueue<I>>(
+    stream: &mut Option<St>,
+    queue: &Q,
+    cx: &mut Context<'_>,
+) -> Option<St::Item>
+    requires { IfSome stream.old St.can_poll }
+    ensures drew { DrawsNext (PollsStream St.yields) Q.count (Q.room queue.now)
+        (record { stream = stream.old; queue = queue.now }) result (record { stream = stream.new; queue = queue.now }) }
+    ensures next { IfSome stream.new St.can_poll }
+    ensures bound { Q.count queue.now ≤ Q.room queue.now }
+    ensures task { DrawsTask (PollsStream St.yields) Q.count Q.room St.needs (result ≡ None)
+        (record { stream = stream.old; queue = queue.now }) (record { stream = stream.new; queue = queue.now })
+        cx.old cx.new }
+{
+    if queue.len() >= queue.capacity() {
+        return None;
+    }
+    let Some(next) = &mut *stream else {
+        return None;
+    };
+    match next.poll_next(cx) {
+        Poll::Ready(Some(item)) => Some(item),
+        Poll::Ready(None) => {
+            *stream = None;
+            None
+        }
+        Poll::Pending => None,
+    }
+}
+
 impl<St: Stream, Q: FutureQueue<St::Item>> Buffer<St, Q> {
     /// Returns how many are held: futures in progress, and outputs that wait for their turn.
     pub fn len(&self) -> usize
@@ -134,25 +163,13 @@ impl<St: Stream, Q: FutureQueue<St::Item>> Buffer<St, Q> {
         ensures task { DrawingLeavesTask St.Stream Q.FutureQueue (result ≡ Break None)
             self.old self.new cx.old cx.new }
     {
-        if self.queue.len() >= self.queue.capacity() {
-            return ControlFlow::Break(None);
-        }
-        let Some(stream) = &mut self.stream else {
+        let Some(item) = next_item(&mut self.stream, &self.queue, cx) else {
             return ControlFlow::Break(None);
         };
-        match stream.poll_next(cx) {
-            Poll::Ready(Some(item)) => {
-                if let Some(answer) = self.queue.push(item) {
-                    return ControlFlow::Break(Some(answer));
-                }
-                ControlFlow::Continue(())
-            }
-            Poll::Ready(None) => {
-                self.stream = None;
-                ControlFlow::Break(None)
-            }
-            Poll::Pending => ControlFlow::Break(None),
+        if let Some(answer) = self.queue.push(item) {
+            return ControlFlow::Break(Some(answer));
         }
+        ControlFlow::Continue(())
     }
 
     // Takes items while the stream has not ended, there is room, and an item comes. Returns the first answer that a

@@ -1,8 +1,7 @@
 //! Some futures of a stream at a time, whose outputs come as they finish.
+ghost use Rattle.futures_buffered.specs.Below.{Pushes, IsNewSet, held_in, slots_in, PollsBounded, itself};
 ghost use Rattle.std.specs.Prelude.{false};
 ghost use Rattle.futures_buffered_unordered.specs.Held.{AllHeld, ComesFrom};
-ghost use Rattle.futures_buffered_unordered.specs.FuturesUnorderedBounded.{Pushes, IsNewSet, held_in, slots_in};
-ghost use Rattle.futures_buffered_unordered.specs.PollsBounded.{PollsBounded, itself};
 ghost use Rattle.futures_buffered.specs.FutureQueue.{OnlyPushes};
 ghost use Rattle.futures_buffered.specs.BufferUnordered.{LosesNothing, MayGiveInSlot, SetWaitsAt};
 

@@ -1,10 +1,8 @@
 //! Some futures of a stream at a time, whose outputs come in the order of the items.
+ghost use Rattle.futures_buffered.specs.Below.{itself, EachRunning, IsNewBoundedQueue, PollsOrderedBounded};
+ghost use Rattle.futures_buffered.specs.Below.{PushesNumber, SetMayGive};
 ghost use Rattle.std.specs.Prelude.{true};
-ghost use Rattle.futures_buffered_unordered.specs.PollsBounded.{itself};
 ghost use Rattle.futures_buffered_ordered.specs.OrderedEntries.{AddsBack, ComesInOrder};
-ghost use Rattle.futures_buffered_ordered.specs.FuturesOrderedBounded.{EachRunning, IsNewBoundedQueue};
-ghost use Rattle.futures_buffered_ordered.specs.FuturesOrderedBounded.{PollsOrderedBounded, PushesNumber};
-ghost use Rattle.futures_buffered_ordered.specs.FuturesOrderedBounded.{SetMayGive};
 ghost use Rattle.futures_buffered.specs.FutureQueue.{OnlyPushes};
 ghost use Rattle.futures_buffered.specs.BufferUnordered.{MayGiveInSlot};
 ghost use Rattle.futures_buffered.specs.BufferedOrdered.{GivesInOrder, QueueWaitsAt, queue_len, queue_slots};
@@ -55,12 +53,8 @@ impl<F: SlotFuture<S::Waker, Output = A>, A: Drop, S: NewSource> NewQueue
     }
 }
 
-impl<F, A, S> FutureQueue<F> for OrderedQueue<F, A, S>
-where
-    F: SlotFuture<S::Waker, Output = A>,
-    A: Drop,
-    S: ReadySource,
-{
+impl<F: SlotFuture<S::Waker, Output = A>, A: Drop, S: ReadySource> FutureQueue<F>
+    for OrderedQueue<F, A, S> {
     type Output = A;
 
     ghost count = { queue_len };

@@ -1,6 +1,6 @@
 //! A buffer that is polled to its end, or to the first output that ends the drain.
+ghost use Rattle.futures_buffered.specs.Below.{MakesSlots};
 ghost use Rattle.std.specs.Prelude.{◌≡◌, ◌<◌, ◌≤◌, option_copied};
-ghost use Rattle.futures_buffered_core.specs.Made.{MakesSlots};
 ghost use Rattle.futures_buffered.specs.Drain.{IsDrained, IsNewDrain, PollsDrain, drain_of};
 
 use crate::buffer::Buffer;
@@ -93,11 +93,7 @@ impl<St: Drop, Q: NewQueue> Drain<St, Q> {
     }
 }
 
-impl<St, Q> TakeTurns for Drain<St, Q>
-where
-    St: Stream,
-    Q: FutureQueue<St::Item, Output: DrainOutput>,
-{
+impl<St: Stream, Q: FutureQueue<St::Item, Output: DrainOutput>> TakeTurns for Drain<St, Q> {
     type Answer = Q::Output;
 
     ghost taken = { drain_of St.Stream Q.FutureQueue Q.Output.DrainOutput };
@@ -128,11 +124,7 @@ where
     }
 }
 
-impl<St, Q> Future for Drain<St, Q>
-where
-    St: Stream,
-    Q: FutureQueue<St::Item, Output: DrainOutput>,
-{
+impl<St: Stream, Q: FutureQueue<St::Item, Output: DrainOutput>> Future for Drain<St, Q> {
     type Output = Q::Output;
 
     ghost can_poll = { (drain_of St.Stream Q.FutureQueue Q.Output.DrainOutput).can_poll };
@@ -161,11 +153,7 @@ where
 }
 
 /// The drain is terminated if there is no buffer, or if the buffer's stream has ended and the buffer holds nothing.
-impl<St, Q> FusedFuture for Drain<St, Q>
-where
-    St: Stream,
-    Q: FutureQueue<St::Item, Output: DrainOutput>,
-{
+impl<St: Stream, Q: FutureQueue<St::Item, Output: DrainOutput>> FusedFuture for Drain<St, Q> {
     ghost is_over = { IsDrained Q.count };
 
     fn is_terminated(&self) -> bool {
@@ -177,11 +165,7 @@ where
 }
 
 /// Prints whether the drain has ended.
-impl<St, Q> fmt::Debug for Drain<St, Q>
-where
-    St: Stream,
-    Q: FutureQueue<St::Item, Output: DrainOutput>,
-{
+impl<St: Stream, Q: FutureQueue<St::Item, Output: DrainOutput>> fmt::Debug for Drain<St, Q> {
     fn fmt<W: fmt::Write>(&self, f: &mut fmt::Formatter<W>) -> fmt::Result {
         f.debug_struct(Q::Output::drain_name())
             .field("has_ended", &self.buffer.is_none())

@@ -1,11 +1,12 @@
 //! Calls a closure with each item of a stream, and runs some of the futures that the closure makes at a time, in any
 //! queue of futures that has a limit.
+ghost use Rattle.futures_buffered.specs.Below.{MakesSlots};
 ghost use Rattle.std.specs.Prelude.{◌≡◌, ◌<◌, ◌≤◌, ◌↔◌, Option, IsTrue, is_some, false, option_copied};
-ghost use Rattle.futures_buffered_core.specs.Made.{MakesSlots};
-ghost use Rattle.futures_buffered.specs.ForEachConcurrent.{IsNewForEach, CanForEach, DrawsOnce};
-ghost use Rattle.futures_buffered.specs.ForEachConcurrent.{MayEnd, PollsForEach, for_each_of, turn_answer};
+ghost use Rattle.futures_buffered.specs.ForEachConcurrent.{IsNewForEach, CanForEach, DrawsOnce, MayEnd, PollsForEach};
+ghost use Rattle.futures_buffered.specs.ForEachConcurrent.{for_each_of, turn_answer};
 ghost use Rattle.futures_buffered.specs.Buffer.{DrawsTask, PollsStream};
 
+use crate::buffer::next_item;
 use crate::buffer_unordered::CompletionQueue;
 use crate::future_queue::{FutureQueue, LimitedQueue, NewQueue};
 use crate::turns::TakeTurns;
@@ -153,24 +154,12 @@ impl<
         ensures task { DrawsTask (PollsStream St.yields) Q.count Q.room St.needs (result ≡ false)
             self.old.buffer self.new.buffer cx.old cx.new }
     {
-        if self.queue.len() >= self.queue.capacity() {
-            return false;
-        }
-        let Some(stream) = &mut self.stream else {
+        let Some(item) = next_item(&mut self.stream, &self.queue, cx) else {
             return false;
         };
-        match stream.poll_next(cx) {
-            Poll::Ready(Some(item)) => {
-                let future = (self.closure)(item);
-                self.queue.push(future);
-                true
-            }
-            Poll::Ready(None) => {
-                self.stream = None;
-                false
-            }
-            Poll::Pending => false,
-        }
+        let future = (self.closure)(item);
+        self.queue.push(future);
+        true
     }
 }
 

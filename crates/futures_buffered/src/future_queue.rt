@@ -3,9 +3,8 @@
 //! A buffer is written once, for any such queue. The outputs of a `CompletionQueue`, and of a `FuturesUnorderedBounded`
 //! of `in_flight`, come as the futures finish. An `OrderedQueue` keeps the order of the pushes. A `TryQueue` is made of
 //! any of them, and accepts errors also.
+ghost use Rattle.futures_buffered.specs.Below.{MakesSlots, stream_of};
 ghost use Rattle.std.specs.Prelude.{◌≡◌, ◌<◌, ◌≤◌, ℕ, Bool, List, None, Option};
-ghost use Rattle.futures_buffered_core.specs.Made.{MakesSlots};
-ghost use Rattle.futures_buffered_unordered.specs.StreamAnswers.{stream_of};
 ghost use Rattle.futures_buffered.specs.FutureQueue.{PollsFutureQueue, PushAddsOutput, PushLeavesQueue};
 
 use futures::task::{Context, Poll};

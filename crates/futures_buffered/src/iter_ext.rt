@@ -1,17 +1,14 @@
 //! Constructors of sets, queues, joins and merges as methods of an iterator.
+ghost use Rattle.futures_buffered.specs.Below.{IsNewShared, MarksShared, HoldsEach, slots_in, HoldsInOrder};
 ghost use Rattle.futures_buffered_core.specs.Drawn.{IsFiniteSource, items_of};
-ghost use Rattle.futures_buffered_core.specs.ReadyShared.{IsNewShared, MarksShared};
-ghost use Rattle.futures_buffered_unordered.specs.FuturesUnorderedBounded.{HoldsEach, slots_in};
-ghost use Rattle.futures_buffered_unordered.specs.FuturesUnordered.{GrowingPushes, MakesSharedSet};
-ghost use Rattle.futures_buffered_unordered.specs.FuturesUnordered.{MakesPushed};
+ghost use Rattle.futures_buffered_unordered.specs.FuturesUnordered.{GrowingPushes, MakesSharedSet, MakesPushed};
 ghost use Rattle.futures_buffered_unordered.specs.Extended.{MakesFull};
 ghost use Rattle.futures_buffered_joins.specs.Join.{MakesJoin};
-ghost use Rattle.futures_buffered_ordered.specs.FuturesOrderedBounded.{HoldsInOrder};
 ghost use Rattle.futures_buffered_ordered.specs.FuturesOrdered.{MakesSharedQueue};
 ghost use Rattle.futures_buffered.specs.BufferedOrdered.{queue_slots};
 
 use futures_buffered_core::ready_core::NewFault;
-use futures_buffered_core::ready_shared::{SharedReady, SharedWaker};
+use futures_buffered_core::ready_shared::SharedWaker;
 use futures_buffered_joins::{JoinAll, TryJoinAll};
 use futures_buffered_ordered::{FuturesOrdered, FuturesOrderedBounded};
 use futures_buffered_unordered::futures_unordered::{FIRST_GROUP, FuturesUnordered};
@@ -28,7 +25,7 @@ pub trait IterExt: IntoIterator + Sized {
     final fn into_unordered_stream(
         self,
         alloc: Global,
-    ) -> Result<FuturesUnorderedBounded<Self::Item, SharedReady>, NewFault>
+    ) -> Result<FuturesUnorderedBounded<Self::Item>, NewFault>
     where
         Self::Item: SlotFuture<SharedWaker>,
         requires { IsFiniteSource (items_of Self.IntoIterator Self.IntoIter.Iterator self) }
@@ -43,7 +40,7 @@ pub trait IterExt: IntoIterator + Sized {
     final fn into_unordered_stream_unbounded(
         self,
         alloc: Global,
-    ) -> Result<FuturesUnordered<Self::Item, SharedReady>, NewFault>
+    ) -> Result<FuturesUnordered<Self::Item>, NewFault>
     where
         Self::Item: SlotFuture<SharedWaker>,
         requires { IsFiniteSource (items_of Self.IntoIterator Self.IntoIter.Iterator self) }
@@ -57,7 +54,7 @@ pub trait IterExt: IntoIterator + Sized {
     final fn into_ordered_stream(
         self,
         alloc: Global,
-    ) -> Result<FuturesOrderedBounded<Self::Item, SharedReady>, NewFault>
+    ) -> Result<FuturesOrderedBounded<Self::Item>, NewFault>
     where
         Self::Item: SlotFuture<SharedWaker, Output: Drop>,
         requires { IsFiniteSource (items_of Self.IntoIterator Self.IntoIter.Iterator self) }
@@ -72,7 +69,7 @@ pub trait IterExt: IntoIterator + Sized {
     final fn into_ordered_stream_unbounded(
         self,
         alloc: Global,
-    ) -> Result<FuturesOrdered<Self::Item, SharedReady>, NewFault>
+    ) -> Result<FuturesOrdered<Self::Item>, NewFault>
     where
         Self::Item: SlotFuture<SharedWaker, Output: Drop>,
         requires { IsFiniteSource (items_of Self.IntoIterator Self.IntoIter.Iterator self) }
@@ -83,7 +80,7 @@ pub trait IterExt: IntoIterator + Sized {
 
     /// Makes a join of these futures, which is ready with all outputs, each at its future's place. The call is the
     /// function `join_all`, and fails as that does.
-    final fn join_all(self, alloc: Global) -> Result<JoinAll<Self::Item, SharedReady>, NewFault>
+    final fn join_all(self, alloc: Global) -> Result<JoinAll<Self::Item>, NewFault>
     where
         Self::Item: SlotFuture<SharedWaker, Output: Drop>,
         requires { IsFiniteSource (items_of Self.IntoIterator Self.IntoIter.Iterator self) }
@@ -95,10 +92,7 @@ pub trait IterExt: IntoIterator + Sized {
 
     /// Makes a join of these futures, which may fail. The join is ready with all outputs, each at its future's place,
     /// or with the first error that comes. The call is the function `try_join_all`, and fails as that does.
-    final fn try_join_all<T, E>(
-        self,
-        alloc: Global,
-    ) -> Result<TryJoinAll<Self::Item, SharedReady>, NewFault>
+    final fn try_join_all<T, E>(self, alloc: Global) -> Result<TryJoinAll<Self::Item>, NewFault>
     where
         Self::Item: SlotFuture<SharedWaker, Output = Result<T, E>>,
         T: Drop,
@@ -111,7 +105,7 @@ pub trait IterExt: IntoIterator + Sized {
 
     /// Makes a merge of these streams without a free slot. The call is `MergeBounded::from_iter`, and fails as that
     /// does. A stream that ends leaves its slot to a later push.
-    final fn merge(self, alloc: Global) -> Result<MergeBounded<Self::Item, SharedReady>, NewFault>
+    final fn merge(self, alloc: Global) -> Result<MergeBounded<Self::Item>, NewFault>
     where
         Self::Item: SlotStream<SharedWaker>,
         requires { IsFiniteSource (items_of Self.IntoIterator Self.IntoIter.Iterator self) }
@@ -122,10 +116,7 @@ pub trait IterExt: IntoIterator + Sized {
     }
 
     /// Makes a growing merge of these streams. The call is `MergeUnbounded::from_iter`, and fails as that does.
-    final fn merge_unbounded(
-        self,
-        alloc: Global,
-    ) -> Result<MergeUnbounded<Self::Item, SharedReady>, NewFault>
+    final fn merge_unbounded(self, alloc: Global) -> Result<MergeUnbounded<Self::Item>, NewFault>
     where
         Self::Item: SlotStream<SharedWaker>,
         requires { IsFiniteSource (items_of Self.IntoIterator Self.IntoIter.Iterator self) }

@@ -1,13 +1,10 @@
 //! Adaptors of a stream of futures and errors, as methods of the stream.
 //!
 //! Each method calls `over` of its type, with a shared source, so the futures are woken from any thread.
-ghost use Rattle.futures_buffered_unordered.specs.FuturesUnorderedBounded.{IsNewSet};
+ghost use Rattle.futures_buffered.specs.Below.{IsNewSet, MakesSlots, IsNewShared, IsNewBoundedQueue};
 ghost use Rattle.std.specs.Prelude.{◌<◌};
-ghost use Rattle.futures_buffered_core.specs.Made.{MakesSlots};
-ghost use Rattle.futures_buffered_core.specs.ReadyShared.{IsNewShared};
 ghost use Rattle.futures_buffered.specs.Buffer.{IsNewBuffer};
 ghost use Rattle.futures_buffered.specs.Drain.{IsNewDrain};
-ghost use Rattle.futures_buffered_ordered.specs.FuturesOrderedBounded.{IsNewBoundedQueue};
 
 pub use crate::try_buffer_unordered::TryBufferUnordered;
 pub use crate::try_buffered_ordered::TryBufferedOrdered;

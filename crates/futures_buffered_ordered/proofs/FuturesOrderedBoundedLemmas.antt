@@ -1,32 +1,17 @@
 -- What holds of an ordered queue over a bounded set: what a push needs, how many names a poll takes, and what may come.
 use Rattle.std.proofs.Common.{◌≡◌, ℕ, ◌+◌, ◌*◌, ◌<◌, ◌≤◌, List, [], ◌∷◌, ◌++◌, length, cond, is_some, Option, Some, None, IfNone, sym, ap, subst, inl, inr, arith, ◌∙◌, add-one}
-use Rattle.std.specs.List.{FoldsTo}
-use Rattle.std.proofs.lemmas.List.{append_assoc, length-replicate}
-use Rattle.std.proofs.lemmas.List.Folds.{sum_by-replicate}
-use Rattle.futures_buffered_table.specs.declared.answer.TheConstants.{MAX_CAPACITY}
+use Rattle.futures_buffered_ordered.proofs.Common.{FoldsTo, append_assoc, length-replicate, sum_by-replicate, MAX_CAPACITY, Covers, IfReady, OnPending, Context, Poll, Ready, Pending, slot_count, held_count, no_slots, Bounded, held_in, ReadySourceOf, PollOneOf, EndsPending, PollsBounded, covers_fewer, held_with, of_numbered, BesideTask, MayRefuse, Ordered, OrderedGives, SetYields, with_task, OrderedBounded, PollsOrderedBounded, SetGives, SetIsFull, SetMayGive, TakesFewNames, names_of_row, names_taken, KeepsBoundedQueue, Numbered, IsLength, NoNumberTwice}
 use Rattle.std.proofs.Math.Nat.{mul-le-mul_left, mul-suc}
-use Rattle.futures.specs.Task.{Covers}
-use Rattle.futures.specs.Poll.{IfReady, OnPending}
-use Rattle.futures.specs.declared.task.context.Context.{Context}
-use Rattle.futures.specs.declared.task.Poll.{Poll}
-use Rattle.futures.specs.declared.task.Poll.TheVariants.{Ready, Pending}
-use Rattle.futures_buffered_core.specs.SlotMap.{slot_count, held_count, no_slots}
 use Rattle.futures_buffered_table.specs.declared.answer.Taken.{Taken}
 use Rattle.futures_buffered_table.specs.declared.answer.Taken.TheVariants.{Slot, Empty, Pause}
-use Rattle.futures_buffered_unordered.specs.FuturesUnorderedBounded.{Bounded, held_in}
-use Rattle.futures_buffered_core.specs.declared.ready_source.ReadySource.{Ghosts as ReadySourceOf}
-use Rattle.futures_buffered_unordered.specs.declared.poll_one.PollOne.{Ghosts as PollOneOf}
-use Rattle.futures_buffered_unordered.specs.PollsBounded.{EndsPending, PollsBounded}
-use Rattle.futures_buffered_unordered.proofs.StreamAnswersLemmas.{covers_fewer}
 use Rattle.futures_buffered_unordered.proofs.FuturesUnorderedBoundedLemmas.{poll_gave, poll_still}
-use Rattle.futures_buffered_ordered.specs.Numbered.{held_with, of_numbered}
-use Rattle.futures_buffered_ordered.specs.OrderedEntries.{BesideTask, MayRefuse, Ordered, OrderedGives, SetYields, with_task}
-use Rattle.futures_buffered_ordered.specs.FuturesOrderedBounded.{OrderedBounded, PollsOrderedBounded, SetGives, SetIsFull, SetMayGive, TakesFewNames, names_of_row, names_taken}
-use Rattle.futures_buffered_ordered.specs.FuturesOrderedBoundedInvariant.{KeepsBoundedQueue}
-use Rattle.futures_buffered_ordered.specs.declared.numbered.Numbered.{Numbered}
-use Rattle.futures_buffered_ordered.proofs.OrderedEntriesInvariantLemmas.{held_by_entries, new_is_numbered, polled_is_numbered}
+use Rattle.futures_buffered_ordered.proofs.OrderedEntriesInvariantLemmas.{held_by_entries, new_is_numbered, polled_is_numbered, is_length}
 use Rattle.futures_buffered_ordered.proofs.NumberedLemmas.{in_slots, numbers_none}
 use Rattle.futures_buffered_ordered.proofs.OrderedEntriesLemmas.{gives_alone}
+
+-- what a bounded queue says of its length
+pub bounded_length : {F A S : Type 0} (q : OrderedBounded F A S) (n : ℕ) → KeepsBoundedQueue q → n ≡ length q.entries → NoNumberTwice q.entries → IsLength held_with held_in q n
+bounded_length q n keeps long once = is_length held_with held_in q n keeps.numbered long once
 
 -- where there are fewer entries than slots, no push is refused
 pub has_room : {F A S : Type 0} (q : OrderedBounded F A S) → KeepsBoundedQueue q → length q.entries < slot_count q.set.slots → MayRefuse SetIsFull q → ⊥

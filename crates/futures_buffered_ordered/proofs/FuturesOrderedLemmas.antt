@@ -1,24 +1,11 @@
 -- How many futures with a number a set that grows holds, before and after its calls.
 use Rattle.std.proofs.Common.{◌≡◌, ℕ, ◌+◌, [], Option, Some, refl, ap, inl, inr, arith, ◌∙◌}
-use Rattle.std.proofs.lemmas.List.Sums.{sum_by-cons}
-use Rattle.futures.specs.declared.task.context.Context.{Context}
-use Rattle.futures.specs.declared.task.Poll.{Poll}
-use Rattle.futures.specs.declared.task.Poll.TheVariants.{Ready}
-use Rattle.futures_buffered_unordered.specs.FuturesUnorderedBounded.{held_in}
-use Rattle.futures_buffered_unordered.specs.FuturesUnordered.{AnyNeeds, Growing, IsNewGrowing, held_in_all}
-use Rattle.futures_buffered_core.specs.declared.ready_source.ReadySource.{Ghosts as ReadySourceOf}
-use Rattle.futures_buffered_unordered.specs.declared.poll_one.PollOne.{Ghosts as PollOneOf}
-use Rattle.futures_buffered_unordered.specs.PollsBounded.{unless_registered}
+use Rattle.futures_buffered_ordered.proofs.Common.{sum_by-cons, Context, Poll, Ready, held_in, AnyNeeds, Growing, IsNewGrowing, held_in_all, ReadySourceOf, PollOneOf, unless_registered, OfSomeTask, NumberedPollsOf, held_with, of_numbered, outputs_with, OrderedGives, PollsOrdered, Numbered, held_in_groups, held_in_groups_with, EachInProgress, GrowingMayGive, OrderedGrowing, SameLimit}
 use Rattle.futures_buffered_unordered.specs.PollsGrowing.{PollsGrowing}
-use Rattle.futures_buffered_unordered.specs.StreamAnswers.{OfSomeTask}
 use Rattle.futures_buffered_unordered.proofs.FuturesUnorderedLemmas.{new_holds_none}
 use Rattle.futures_buffered_unordered.proofs.FuturesUnorderedStreamLemmas.{PollsOneGroup, gave, still}
 use Rattle.futures_buffered_unordered.proofs.GroupsLemmas.{turns_sum}
-use Rattle.futures_buffered_ordered.specs.Numbered.{NumberedPollsOf, held_with, of_numbered, outputs_with}
-use Rattle.futures_buffered_ordered.specs.OrderedEntries.{OrderedGives, PollsOrdered}
-use Rattle.futures_buffered_ordered.specs.declared.numbered.Numbered.{Numbered}
 use Rattle.futures_buffered_ordered.proofs.NumberedLemmas.{numbers_polled, numbers_ended, numbers_none}
-use Rattle.futures_buffered_ordered.specs.FuturesOrdered.{held_in_groups, held_in_groups_with, EachInProgress, GrowingMayGive, OrderedGrowing, SameLimit}
 use Rattle.futures_buffered_ordered.proofs.OrderedEntriesLemmas.{gives_alone}
 
 module _ {R F W A S : Type 0} (rule : PollOneOf R F W A) (source : ReadySourceOf S W) where

@@ -1,3 +1,4 @@
+pub mod Common
 pub mod NumberedLemmas
 pub mod OrderedEntriesInvariantLemmas
 pub mod OrderedEntriesLemmas

@@ -1,23 +1,9 @@
 -- How many futures with a number a bounded set holds, before and after its calls.
 use Rattle.std.proofs.Common.{◌≡◌, ℕ, ◌+◌, ◌<◌, ◌≤◌, ◌==◌, Bool, true, false, cond, List, [], ◌∷◌, length, set, count_by, Option, Some, None, MatchOption, is_some, refl, sym, subst, ap, inl, inr, arith, ◌∙◌}
-use Rattle.std.specs.List.{FoldsTo, sum_by}
-use Rattle.std.proofs.lemmas.List.{get_or_past}
-use Rattle.std.proofs.lemmas.List.Folds.{sum_by-replicate}
-use Rattle.std.proofs.lemmas.List.Sums.{sum_by-cons, sum_by-set}
-use Rattle.std.proofs.lemmas.Bool.{cases_lt}
-use Rattle.futures.specs.declared.task.context.Context.{Context}
-use Rattle.futures.specs.declared.task.Poll.{Poll}
-use Rattle.futures.specs.declared.task.Poll.TheVariants.{Ready, Pending}
-use Rattle.futures_buffered_core.specs.SlotMap.{Slots, value_in, held_count, no_slots, with_value, with_slot_freed, Inserts}
+use Rattle.futures_buffered_ordered.proofs.Common.{FoldsTo, sum_by, get_or_past, sum_by-replicate, sum_by-cons, sum_by-set, cases_lt, Context, Poll, Ready, Pending, Slots, value_in, held_count, no_slots, with_value, with_slot_freed, Inserts, Bounded, Pushes, ReadySourceOf, PollOneOf, PollsBounded, PollsNumbered, has_number, held_with, of_numbered, one_at, outputs_with, Numbered}
 use Rattle.futures_buffered_table.specs.declared.answer.Woke.{Woke}
 use Rattle.futures_buffered_unordered.specs.Held.{Passes, Yields}
-use Rattle.futures_buffered_unordered.specs.FuturesUnorderedBounded.{Bounded, Pushes}
-use Rattle.futures_buffered_core.specs.declared.ready_source.ReadySource.{Ghosts as ReadySourceOf}
-use Rattle.futures_buffered_unordered.specs.declared.poll_one.PollOne.{Ghosts as PollOneOf}
-use Rattle.futures_buffered_unordered.specs.PollsBounded.{PollsBounded}
 use Rattle.futures_buffered_unordered.proofs.HeldLemmas.{value_in-with_value}
-use Rattle.futures_buffered_ordered.specs.Numbered.{PollsNumbered, has_number, held_with, of_numbered, one_at, outputs_with}
-use Rattle.futures_buffered_ordered.specs.declared.numbered.Numbered.{Numbered}
 
 module _ {F : Type 0} (i : ℕ) where
   -- 1 where a slot holds a future with number i

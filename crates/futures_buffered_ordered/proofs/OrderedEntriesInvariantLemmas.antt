@@ -1,16 +1,9 @@
 -- What the calls of an ordered queue make of its entries and their numbers.
 use Rattle.std.proofs.Common.{◌≡◌, ◌⊎◌, ℕ, zero, suc, ◌+◌, ◌-◌, ◌^◌, ◌%◌, ◌<◌, ◌≤◌, Bool, true, true≢false, cond, List, [], ◌∷◌, ◌++◌, length, set, count_by, Option, Some, None, Ok, Err, refl, sym, subst, ap, inl, inr, arith, ◌∙◌}
-use Rattle.std.specs.List.{slice_get, sum_by}
-use Rattle.std.proofs.lemmas.List.Sums.{sum_by-cons, sum_by-set, sum_by_push, count_by-le-length}
-use Rattle.std.proofs.lemmas.Bool.{eq-eqb}
+use Rattle.futures_buffered_ordered.proofs.Common.{slice_get, sum_by, sum_by-cons, sum_by-set, sum_by_push, count_by-le-length, eq-eqb, Context, Ready, NumberedPollsOf, PollsNumberedSet, PushesInto, one_at, outputs_with, AddsBack, AddsFront, BesideTask, Entry, IsLength, IsUnused, Kept, MayRefuse, NoNumberTwice, NumberedSetOf, Ordered, PushesOrHandsBack, QueueIsAtBound, Running, SetYields, is_running, runs_with, starts_running, AddingKeeps, IsNumbered, entry_of, numbered_from}
 use Rattle.std.proofs.lemmas.Bool.Decides.{eqb_tells}
 use Rattle.std.proofs.lemmas.Option.{slice_get_within, get_or_from_slice_get}
-use Rattle.futures.specs.declared.task.context.Context.{Context}
-use Rattle.futures.specs.declared.task.Poll.TheVariants.{Ready}
 use Rattle.futures_buffered_unordered.specs.Groups.{outputs_in}
-use Rattle.futures_buffered_ordered.specs.Numbered.{NumberedPollsOf, PollsNumberedSet, PushesInto, one_at, outputs_with}
-use Rattle.futures_buffered_ordered.specs.OrderedEntries.{AddsBack, AddsFront, BesideTask, Entry, IsLength, IsUnused, Kept, MayRefuse, NoNumberTwice, NumberedSetOf, Ordered, PushesOrHandsBack, QueueIsAtBound, Running, SetYields, is_running, runs_with, starts_running}
-use Rattle.futures_buffered_ordered.specs.OrderedEntriesInvariant.{AddingKeeps, IsNumbered, entry_of, numbered_from}
 use Rattle.futures_buffered_ordered.specs.declared.ordered_entries.TheConstants.{MAX_LEN}
 
 -- the place of the entry with this number, if the front has the number `outgoing`

@@ -1,17 +1,7 @@
 -- What the calls of an ordered queue add, and what its polls may still give.
 use Rattle.std.proofs.Common.{◌≡◌, ◌⊎◌, ℕ, ◌+◌, ◌≤◌, List, [], ◌∷◌, ◌++◌, ◌∙◌, ap, arith, count_by, inl, inr, length, length-set, set, true, Option, Some, None, MatchOption, IfSome, IfNone, OnSome, refl, sym, subst, zero, suc}
-use Rattle.std.specs.List.{FoldsTo, slice_get}
-use Rattle.std.proofs.lemmas.Fn.{FoldsTo-push}
-use Rattle.std.proofs.lemmas.List.{length_push}
-use Rattle.futures.specs.Task.{Covers, Keeps}
-use Rattle.futures.specs.declared.task.context.Context.{Context}
-use Rattle.futures.specs.declared.task.Poll.{Poll}
-use Rattle.futures.specs.declared.task.Poll.TheVariants.{Ready, Pending}
-use Rattle.futures.specs.Poll.{IfReady, OnPending}
+use Rattle.futures_buffered_ordered.proofs.Common.{FoldsTo, slice_get, FoldsTo-push, length_push, Covers, Keeps, Context, Poll, Ready, Pending, IfReady, OnPending, StreamAnswers, stream_of, answers_of, Entry, Kept, Running, Ordered, AddsBack, AddsEachBack, AddsFront, SetYields, LastStep, OrderedGives, BesideTask, with_task, InTurn, EntryGives, ComesInOrder, IsUnused, runs_with, starts_running}
 use Rattle.futures.specs.Runs.{Runs, After, Within, Chains, Leads, Ends}
-use Rattle.futures_buffered_unordered.specs.StreamAnswers.{StreamAnswers, stream_of}
-use Rattle.futures_buffered_unordered.proofs.StreamAnswersLemmas.{answers_of}
-use Rattle.futures_buffered_ordered.specs.OrderedEntries.{Entry, Kept, Running, Ordered, AddsBack, AddsEachBack, AddsFront, SetYields, LastStep, OrderedGives, BesideTask, with_task, InTurn, EntryGives, ComesInOrder, IsUnused, runs_with, starts_running}
 use Rattle.futures_buffered_ordered.proofs.OrderedEntriesInvariantLemmas.{entry_with}
 
 -- one item more was added at the back

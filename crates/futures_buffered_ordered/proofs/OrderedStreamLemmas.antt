@@ -1,15 +1,6 @@
 -- What `futures` asks of a poll of an ordered queue, by any rule.
 use Rattle.std.specs.Prelude.{◌<◌, Option}
-use Rattle.futures.specs.declared.task.context.Context.{Context}
-use Rattle.futures.specs.declared.task.Poll.{Poll}
-use Rattle.futures_buffered_unordered.specs.FuturesUnordered.{AnyNeeds}
-use Rattle.futures_buffered_unordered.specs.FuturesUnorderedBounded.{held_in}
-use Rattle.futures_buffered_core.specs.declared.ready_source.ReadySource.{Ghosts as ReadySourceOf}
-use Rattle.futures_buffered_unordered.specs.declared.poll_one.PollOne.{Ghosts as PollOneOf}
-use Rattle.futures_buffered_unordered.specs.StreamAnswers.{StreamAnswers, stream_of}
-use Rattle.futures_buffered_ordered.specs.OrderedEntries.{ComesInOrder, PollsOrdered}
-use Rattle.futures_buffered_ordered.specs.FuturesOrderedBounded.{EachRunning, OrderedBounded, PollsOrderedBounded, SetGives, SetMayGive}
-use Rattle.futures_buffered_ordered.specs.FuturesOrdered.{EachInProgress, GrowingMayGive, OrderedGrowing, SameLimit, held_in_groups}
+use Rattle.futures_buffered_ordered.proofs.Common.{Context, Poll, AnyNeeds, held_in, ReadySourceOf, PollOneOf, StreamAnswers, stream_of, ComesInOrder, PollsOrdered, EachRunning, OrderedBounded, PollsOrderedBounded, SetGives, SetMayGive, EachInProgress, GrowingMayGive, OrderedGrowing, SameLimit, held_in_groups}
 use Rattle.futures_buffered_ordered.proofs.FuturesOrderedBoundedLemmas.{queue_gives_of, set_gave, set_still}
 use Rattle.futures_buffered_ordered.proofs.FuturesOrderedLemmas.{GroupsAlone, groups_gave, groups_still, growing_polls}
 use Rattle.futures_buffered_ordered.proofs.FuturesOrderedLemmas.{queue_gives_of as growing_gives_of}

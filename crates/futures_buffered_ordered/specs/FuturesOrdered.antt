@@ -1,21 +1,14 @@
 -- What a contract sees of a growing ordered queue: the words on ordered queues, for a growing set.
+use Rattle.futures_buffered_ordered.specs.Below.{sum_by, Poll, NewFault, Woke, Items, MakesGrown}
 use Rattle.std.specs.Prelude.{◌≡◌, ℕ, Result, ⊤}
-use Rattle.std.specs.List.{sum_by}
-use Rattle.futures.specs.declared.task.Poll.{Poll}
-use Rattle.futures_buffered_table.specs.declared.answer.NewFault.{NewFault}
-use Rattle.futures_buffered_table.specs.declared.answer.Woke.{Woke}
-use Rattle.futures_buffered_core.specs.Drawn.{Items}
 use Rattle.futures_buffered_core.specs.ReadyShared.{Shared, IsNewShared, MarksShared}
-use Rattle.futures_buffered_unordered.specs.Extended.{MakesGrown}
-use Rattle.futures_buffered_unordered.specs.FuturesUnordered.{AnyGroupMayGive, Growing, EachHeld}
-use Rattle.futures_buffered_unordered.specs.FuturesUnordered.{GrowingPushes, IsNewGrowing, SetMayRefuse, SetRefuses}
-use Rattle.futures_buffered_unordered.specs.FuturesUnordered.{held_in_all}
+use Rattle.futures_buffered_unordered.specs.FuturesUnordered.{AnyGroupMayGive, Growing, EachHeld, GrowingPushes}
+use Rattle.futures_buffered_unordered.specs.FuturesUnordered.{IsNewGrowing, SetMayRefuse, SetRefuses, held_in_all}
 use Rattle.futures_buffered_core.specs.declared.ready_source.ReadySource.{Ghosts as ReadySourceOf}
 use Rattle.futures_buffered_unordered.specs.declared.futures_unordered.TheConstants.{FIRST_GROUP}
 use Rattle.futures_buffered_unordered.specs.declared.futures_unordered_bounded.TheConstants.{POLL_LIMIT}
 use Rattle.futures_buffered_ordered.specs.Numbered.{CanPollFuture, PollsNumbered, held_with}
-use Rattle.futures_buffered_ordered.specs.OrderedEntries.{AddsBack, NumberedSetOf, Ordered, IsNewQueue}
-use Rattle.futures_buffered_ordered.specs.OrderedEntries.{QueueIsAtBound}
+use Rattle.futures_buffered_ordered.specs.OrderedEntries.{AddsBack, NumberedSetOf, Ordered, IsNewQueue, QueueIsAtBound}
 use Rattle.futures_buffered_ordered.specs.declared.numbered.Numbered.{Numbered}
 
 -- the growing set of numbered futures, the entries, and how many entries had a place when the queue was made

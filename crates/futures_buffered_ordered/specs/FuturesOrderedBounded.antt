@@ -1,22 +1,14 @@
 -- What a contract sees of a bounded ordered queue: the words on ordered queues, for a bounded set.
+use Rattle.futures_buffered_ordered.specs.Below.{FoldsTo, Context, Poll, Ready, Pending, slot_count, Woke, Bounded}
+use Rattle.futures_buffered_ordered.specs.Below.{IsNewSet, Pushes, held_in, slots_in, PollOneOf, PollsBounded}
 use Rattle.std.specs.Prelude.{◌≡◌, ℕ, ◌+◌, ◌*◌, ◌<◌, ◌≤◌, List, [], ◌∷◌, length, Option, Some, None, ⊤}
-use Rattle.std.specs.List.{FoldsTo}
-use Rattle.futures.specs.declared.task.context.Context.{Context}
-use Rattle.futures.specs.declared.task.Poll.{Poll}
-use Rattle.futures.specs.declared.task.Poll.TheVariants.{Ready, Pending}
-use Rattle.futures_buffered_core.specs.SlotMap.{slot_count}
-use Rattle.futures_buffered_table.specs.declared.answer.Woke.{Woke}
 use Rattle.futures_buffered_unordered.specs.Held.{AllHeld, AnyMayGive}
-use Rattle.futures_buffered_unordered.specs.FuturesUnorderedBounded.{Bounded, IsNewSet, Pushes, held_in}
-use Rattle.futures_buffered_unordered.specs.FuturesUnorderedBounded.{slots_in}
 use Rattle.futures_buffered_core.specs.declared.ready_source.ReadySource.{Ghosts as ReadySourceOf}
-use Rattle.futures_buffered_unordered.specs.declared.poll_one.PollOne.{Ghosts as PollOneOf}
-use Rattle.futures_buffered_unordered.specs.PollsBounded.{PollsBounded}
 use Rattle.futures_buffered_unordered.specs.StreamAnswers.{OfSomeTask}
-use Rattle.futures_buffered_ordered.specs.Numbered.{CanPollFuture, NumberedPollsOf, PollsNumbered, held_with, of_numbered}
+use Rattle.futures_buffered_ordered.specs.Numbered.{CanPollFuture, NumberedPollsOf, PollsNumbered, held_with}
+use Rattle.futures_buffered_ordered.specs.Numbered.{of_numbered}
 use Rattle.futures_buffered_ordered.specs.OrderedEntries.{Ordered, IsNewQueue, AddsEachBack, BesideTask, LastStep}
-use Rattle.futures_buffered_ordered.specs.OrderedEntries.{NumberedSetOf, PollsOrdered, SetYields}
-use Rattle.futures_buffered_ordered.specs.OrderedEntries.{with_task}
+use Rattle.futures_buffered_ordered.specs.OrderedEntries.{NumberedSetOf, PollsOrdered, SetYields, with_task}
 use Rattle.futures_buffered_ordered.specs.declared.numbered.Numbered.{Numbered}
 
 -- the bounded set of numbered futures, the entries, and how many entries had a place when the queue was made
@@ -40,13 +32,8 @@ module _ {F S : Type 0} where
 
   -- What a push at one end makes of a queue that has fewer entries than slots. `adds` says what it is to add at this
   -- end.
-  pub record PushesEntry
-      {A : Type 0}
-      (adds : OrderedBounded F A S → F → OrderedBounded F A S → Type 0)
-      (old : OrderedBounded F A S)
-      (future : F)
-      (new : OrderedBounded F A S)
-      : Type 0 where
+  pub record PushesEntry {A : Type 0} (adds : OrderedBounded F A S → F → OrderedBounded F A S → Type 0)
+      (old : OrderedBounded F A S) (future : F) (new : OrderedBounded F A S) : Type 0 where
     -- the future was added at this end
     pub pushed : adds old future new
     -- the number of slots does not change
@@ -89,58 +76,54 @@ bounded_numbers source = record {
   is_fit = λ _. ⊤;
 }
 
-module _
-    {R F W A S : Type 0}
-    (rule : PollOneOf R F W A)
-    (source : ReadySourceOf S W)
-  where
-    -- how the set of a queue is polled, if `rule` says how one future is polled
-    abbrev pub bounded_polls : NumberedPollsOf (Bounded (Numbered F) S) R A
-    bounded_polls = record {
-      can_poll = EachRunning rule.can_poll;
-      gives = PollsBounded (of_numbered rule) source;
-      needs = λ set n. (0 < held_in set) × source.needs set.source n;
-    }
+module _ {R F W A S : Type 0} (rule : PollOneOf R F W A) (source : ReadySourceOf S W) where
+  -- how the set of a queue is polled, if `rule` says how one future is polled
+  abbrev pub bounded_polls : NumberedPollsOf (Bounded (Numbered F) S) R A
+  bounded_polls = record {
+    can_poll = EachRunning rule.can_poll;
+    gives = PollsBounded (of_numbered rule) source;
+    needs = λ set n. (0 < held_in set) × source.needs set.source n;
+  }
 
-    -- one poll of the set, of some task; an output comes with its number
-    abbrev pub SetGives : Bounded (Numbered F) S → Poll (Option (ℕ × A)) → Bounded (Numbered F) S → Type 0
-    SetGives = OfSomeTask (PollsBounded (of_numbered rule) source)
+  -- one poll of the set, of some task; an output comes with its number
+  abbrev pub SetGives : Bounded (Numbered F) S → Poll (Option (ℕ × A)) → Bounded (Numbered F) S → Type 0
+  SetGives = OfSomeTask (PollsBounded (of_numbered rule) source)
 
-    -- One poll of a bounded queue, over the queue and the task. It is for definitions and laws, which can quote no
-    -- impl.
-    abbrev pub PollsOrderedBounded : OrderedBounded F A S → Poll (Option A) → OrderedBounded F A S
-        → Context → Context → Type 0
-    PollsOrderedBounded = PollsOrdered held_in SameSize bounded_polls
+  -- One poll of a bounded queue, over the queue and the task. It is for definitions and laws, which can quote no
+  -- impl.
+  abbrev pub PollsOrderedBounded : OrderedBounded F A S → Poll (Option A) → OrderedBounded F A S
+      → Context → Context → Type 0
+  PollsOrderedBounded = PollsOrdered held_in SameSize bounded_polls
 
-    -- how many ready slots one poll of the set took
-    abbrev pub names_taken : (old : Bounded (Numbered F) S) (answer : Poll (Option (ℕ × A)))
-        (new : Bounded (Numbered F) S) (cx left : Context)
-        → PollsBounded (of_numbered rule) source old answer new cx left → ℕ
-    names_taken old (Ready None) new cx left poll = 0
-    names_taken old (Ready (Some out)) new cx left poll = length poll.gave.1.2.takes.names + 1
-    names_taken old Pending new cx left poll = length poll.gave.1.takes.names
+  -- how many ready slots one poll of the set took
+  abbrev pub names_taken : (old : Bounded (Numbered F) S) (answer : Poll (Option (ℕ × A)))
+      (new : Bounded (Numbered F) S) (cx left : Context)
+      → PollsBounded (of_numbered rule) source old answer new cx left → ℕ
+  names_taken old (Ready None) new cx left poll = 0
+  names_taken old (Ready (Some out)) new cx left poll = length poll.gave.1.2.takes.names + 1
+  names_taken old Pending new cx left poll = length poll.gave.1.takes.names
 
-    -- how many ready slots were taken by the polls of the set that returned an output each
-    abbrev pub names_of_row : (old : Ordered (Bounded (Numbered F) S × Context) A)
-        (row : List (ℕ × A)) (new : Ordered (Bounded (Numbered F) S × Context) A)
-        → FoldsTo (SetYields (BesideTask (PollsBounded (of_numbered rule) source))) old row new → ℕ
-    names_of_row old [] new row = 0
-    names_of_row old (out ∷ outs) new row =
-        names_taken old.set.0 (Ready (Some out)) row.0.set.0 old.set.1 row.0.set.1 row.1.gave
-        + names_of_row row.0 outs new row.2
+  -- how many ready slots were taken by the polls of the set that returned an output each
+  abbrev pub names_of_row : (old : Ordered (Bounded (Numbered F) S × Context) A)
+      (row : List (ℕ × A)) (new : Ordered (Bounded (Numbered F) S × Context) A)
+      → FoldsTo (SetYields (BesideTask (PollsBounded (of_numbered rule) source))) old row new → ℕ
+  names_of_row old [] new row = 0
+  names_of_row old (out ∷ outs) new row =
+      names_taken old.set.0 (Ready (Some out)) row.0.set.0 old.set.1 row.0.set.1 row.1.gave
+      + names_of_row row.0 outs new row.2
 
-    -- how many ready slots the last step took; 0 if it did not poll the set
-    abbrev pub names_of_last : (old : Ordered (Bounded (Numbered F) S × Context) A)
-        (answer : Poll (Option A)) (new : Ordered (Bounded (Numbered F) S × Context) A)
-        → LastStep (BesideTask (PollsBounded (of_numbered rule) source)) old answer new → ℕ
-    names_of_last old (Ready _) new step = 0
-    names_of_last old Pending new step = names_taken old.set.0 Pending new.set.0 old.set.1 new.set.1 step.1
+  -- how many ready slots the last step took; 0 if it did not poll the set
+  abbrev pub names_of_last : (old : Ordered (Bounded (Numbered F) S × Context) A)
+      (answer : Poll (Option A)) (new : Ordered (Bounded (Numbered F) S × Context) A)
+      → LastStep (BesideTask (PollsBounded (of_numbered rule) source)) old answer new → ℕ
+  names_of_last old (Ready _) new step = 0
+  names_of_last old Pending new step = names_taken old.set.0 Pending new.set.0 old.set.1 new.set.1 step.1
 
-    -- each poll takes at most `limit` ready slots for each future that is in progress as the poll begins
-    abbrev pub TakesFewNames : Type 0
-    TakesFewNames = (old : OrderedBounded F A S) (answer : Poll (Option A))
-        (new : OrderedBounded F A S) (cx left : Context)
-        → (poll : PollsOrderedBounded old answer new cx left)
-        → names_of_row (with_task old cx) poll.gave.yielded poll.gave.before poll.gave.row
-        + names_of_last poll.gave.before answer (with_task new left) poll.gave.last_step
-        ≤ old.set.limit * held_in old.set
+  -- each poll takes at most `limit` ready slots for each future that is in progress as the poll begins
+  abbrev pub TakesFewNames : Type 0
+  TakesFewNames = (old : OrderedBounded F A S) (answer : Poll (Option A))
+      (new : OrderedBounded F A S) (cx left : Context)
+      → (poll : PollsOrderedBounded old answer new cx left)
+      → names_of_row (with_task old cx) poll.gave.yielded poll.gave.before poll.gave.row
+      + names_of_last poll.gave.before answer (with_task new left) poll.gave.last_step
+      ≤ old.set.limit * held_in old.set

@@ -1,7 +1,6 @@
 -- The invariant of a bounded ordered queue. No public clause cites it.
+use Rattle.futures_buffered_ordered.specs.Below.{slot_count, held_in}
 use Rattle.std.specs.Prelude.{◌^◌, ◌<◌, ◌≤◌}
-use Rattle.futures_buffered_core.specs.SlotMap.{slot_count}
-use Rattle.futures_buffered_unordered.specs.FuturesUnorderedBounded.{held_in}
 use Rattle.futures_buffered_ordered.specs.Numbered.{held_with}
 use Rattle.futures_buffered_ordered.specs.OrderedEntriesInvariant.{IsNumbered}
 use Rattle.futures_buffered_ordered.specs.FuturesOrderedBounded.{OrderedBounded}

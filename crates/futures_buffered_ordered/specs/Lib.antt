@@ -1,3 +1,4 @@
+pub mod Below
 pub mod Numbered
 pub mod OrderedEntries
 pub mod OrderedEntriesInvariant

@@ -1,14 +1,10 @@
 -- A poll of a future with the number of its entry, and how many futures of a bounded set have a number. Then what the
 -- calls of any set of such futures make of it.
+use Rattle.futures_buffered_ordered.specs.Below.{Context, Poll, Ready, Pending, Bounded, PollOneOf}
 use Rattle.std.specs.Prelude.{◌≡◌, ℕ, ◌+◌, ◌==◌, cond, Bool, false, Option, Some, None, count_by, IfNone}
 use Rattle.futures.specs.Task.{Covers, Keeps}
 use Rattle.futures.specs.Poll.{IfReady, OnPending}
-use Rattle.futures.specs.declared.task.context.Context.{Context}
-use Rattle.futures.specs.declared.task.Poll.{Poll}
-use Rattle.futures.specs.declared.task.Poll.TheVariants.{Ready, Pending}
-use Rattle.futures_buffered_unordered.specs.FuturesUnorderedBounded.{Bounded}
 use Rattle.futures_buffered_unordered.specs.Groups.{outputs_in}
-use Rattle.futures_buffered_unordered.specs.declared.poll_one.PollOne.{Ghosts as PollOneOf}
 use Rattle.futures_buffered_ordered.specs.declared.numbered.Numbered.{Numbered}
 use Rattle.futures_buffered_ordered.specs.declared.numbered.PollNumbered.{PollNumbered}
 pub use Rattle.futures_buffered_ordered.specs.declared.numbered_polls.NumberedPolls.{Ghosts as NumberedPollsOf}
@@ -52,16 +48,8 @@ outputs_with i (Ready None) = 0
 outputs_with i (Ready (Some out)) = one_at i out.0
 
 -- A push put the value, which has a number, into a set, and took the set from `old` to `new`.
-pub record PushesInto
-    {F Q : Type 0}
-    (pushes : Q → F → ℕ → Q → Type 0)
-    (count : Q → ℕ)
-    (with_number : ℕ → Q → ℕ)
-    (keeps : Q → Q → Type 0)
-    (old : Q)
-    (value : Numbered F)
-    (new : Q)
-    : Type 0 where
+pub record PushesInto {F Q : Type 0} (pushes : Q → F → ℕ → Q → Type 0) (count : Q → ℕ) (with_number : ℕ → Q → ℕ)
+    (keeps : Q → Q → Type 0) (old : Q) (value : Numbered F) (new : Q) : Type 0 where
   -- the future was pushed, with its number
   pub went_in : pushes old value.future value.number new
   -- the set holds one future more
@@ -74,17 +62,8 @@ pub record PushesInto
 -- One poll of a set of numbered futures, which takes the set from `old` to `new` and the task from `cx` to `left`.
 -- `polls` is what the set's type has as `NumberedPolls<R>`. `count` says how many futures the set holds, and
 -- `with_number` how many with a number. `keeps` says what its calls keep of it.
-pub record PollsNumberedSet
-    {Q R A : Type 0}
-    (polls : NumberedPollsOf Q R A)
-    (count : Q → ℕ)
-    (with_number : ℕ → Q → ℕ)
-    (keeps : Q → Q → Type 0)
-    (old : Q)
-    (answer : Poll (Option (ℕ × A)))
-    (new : Q)
-    (cx left : Context)
-    : Type 0 where
+pub record PollsNumberedSet {Q R A : Type 0} (polls : NumberedPollsOf Q R A) (count : Q → ℕ) (with_number : ℕ → Q → ℕ)
+    (keeps : Q → Q → Type 0) (old : Q) (answer : Poll (Option (ℕ × A))) (new : Q) (cx left : Context) : Type 0 where
   -- the result, and whether the task is woken
   pub gave : polls.gives old answer new cx left
   -- the result is `None` only if the set was empty

@@ -1,19 +1,15 @@
 -- What a contract sees of an ordered queue, and what its calls make of it. The set that holds the futures in progress
 -- may be any that takes a number with a future and returns it with the output.
+use Rattle.futures_buffered_ordered.specs.Below.{FoldsTo, slice_get, Context, Poll, Ready, Pending, NewFault}
 use Rattle.std.specs.Prelude.{◌≡◌, ◌≢◌, ◌⊎◌, ◌↔◌, ℕ, ◌+◌, ◌<◌, ◌≤◌, ◌==◌, Bool, true, false, List, [], ◌∷◌, ◌++◌}
 use Rattle.std.specs.Prelude.{length, Option, Some, None, count_by, slice_set, Result, Err, IfErr, OnOk, OnErr, IsErr}
-use Rattle.std.specs.List.{FoldsTo, slice_get}
 use Rattle.futures.specs.Task.{Covers, Keeps}
 use Rattle.futures.specs.Poll.{OnPending}
-use Rattle.futures.specs.declared.task.context.Context.{Context}
-use Rattle.futures.specs.declared.task.Poll.{Poll}
-use Rattle.futures.specs.declared.task.Poll.TheVariants.{Ready, Pending}
 use Rattle.futures.specs.Runs.{Runs, Leads, Ends}
-use Rattle.futures_buffered_table.specs.declared.answer.NewFault.{NewFault}
 use Rattle.futures_buffered_table.specs.declared.answer.NewFault.TheVariants.{TooLarge}
-pub use Rattle.futures_buffered_ordered.specs.declared.numbered_set.NumberedSet.{Ghosts as NumberedSetOf}
 use Rattle.futures_buffered_ordered.specs.declared.numbered_polls.NumberedPolls.{Ghosts as NumberedPollsOf}
 use Rattle.futures_buffered_ordered.specs.declared.ordered_entries.TheConstants.{MAX_LEN}
+pub use Rattle.futures_buffered_ordered.specs.declared.numbered_set.NumberedSet.{Ghosts as NumberedSetOf}
 
 -- an entry of a queue: its future is in progress, with this number, or its output waits for its turn
 pub data Entry (A : Type 0) : Type 0 where
@@ -60,8 +56,7 @@ module _ {Q A : Type 0} where
 
   -- n is the length of a queue. Its set holds as many futures as `count` says, and as many with a number as
   -- `with_number` says.
-  pub record IsLength (with_number : ℕ → Q → ℕ) (count : Q → ℕ) (q : Ordered Q A) (n : ℕ)
-      : Type 0 where
+  pub record IsLength (with_number : ℕ → Q → ℕ) (count : Q → ℕ) (q : Ordered Q A) (n : ℕ) : Type 0 where
     -- n is the number of entries
     pub value : n ≡ length q.entries
     -- each entry in progress has a future of its own
@@ -93,13 +88,8 @@ module _ {Q A : Type 0} where
   QueueIsAtBound set_refuses q = (length q.entries ≡ MAX_LEN) ⊎ set_refuses q.set
 
 -- A push from `old` to `new` fails, and returns `back`.
-pub record HandsBack
-    {F Q A : Type 0}
-    (set_may_refuse : Q → Type 0)
-    (old : Ordered Q A)
-    (future back : F)
-    (new : Ordered Q A)
-    : Type 0 where
+pub record HandsBack {F Q A : Type 0} (set_may_refuse : Q → Type 0) (old : Ordered Q A) (future back : F)
+    (new : Ordered Q A) : Type 0 where
   -- `back` is the future of the push
   pub same : back ≡ future
   -- the queue does not change
@@ -109,41 +99,35 @@ pub record HandsBack
 
 -- What a push at one end, from `old` to `new`, makes of a queue. `adds` says what it is to add at this end: it is
 -- `AddsBack` or `AddsFront`, over the pushes of the set.
-module _
-    {F Q A : Type 0}
-    (adds : (Q → F → ℕ → Q → Type 0) → Ordered Q A → F → Ordered Q A → Type 0)
-    (numbers : NumberedSetOf Q F)
-    (old : Ordered Q A)
-    (future : F)
-  where
-    -- a push that returns the future if it fails
-    pub record PushesOrHandsBack (result : Result (Unit {0}) F) (new : Ordered Q A) : Type 0 where
-      -- if the push succeeds, the future was added at this end
-      pub pushed : OnOk result (adds numbers.pushes old future new)
-      -- if the push fails, the future is returned and the queue does not change
-      pub back : IfErr result (λ back. HandsBack numbers.may_refuse old future back new)
-      -- the push fails if the queue takes no more futures
-      pub large : QueueIsAtBound numbers.refuses old → IsErr result
-      -- `keeps` holds of the set before and after
-      pub set : numbers.keeps old.set new.set
+module _ {F Q A : Type 0} (adds : (Q → F → ℕ → Q → Type 0) → Ordered Q A → F → Ordered Q A → Type 0)
+    (numbers : NumberedSetOf Q F) (old : Ordered Q A) (future : F) where
+  -- a push that returns the future if it fails
+  pub record PushesOrHandsBack (result : Result (Unit {0}) F) (new : Ordered Q A) : Type 0 where
+    -- if the push succeeds, the future was added at this end
+    pub pushed : OnOk result (adds numbers.pushes old future new)
+    -- if the push fails, the future is returned and the queue does not change
+    pub back : IfErr result (λ back. HandsBack numbers.may_refuse old future back new)
+    -- the push fails if the queue takes no more futures
+    pub large : QueueIsAtBound numbers.refuses old → IsErr result
+    -- `keeps` holds of the set before and after
+    pub set : numbers.keeps old.set new.set
 
-    -- a push that drops the future if it fails, and returns the reason
-    pub record AddsOrStays (result : Result (Unit {0}) NewFault) (new : Ordered Q A) : Type 0 where
-      -- if the push succeeds, the future was added at this end
-      pub pushed : OnOk result (adds numbers.pushes old future new)
-      -- if the push fails, the queue does not change
-      pub stays : OnErr result (new ≡ old)
-      -- if the push fails, one of the reasons of `MayRefuse` held
-      pub may_refuse : OnErr result (MayRefuse numbers.may_refuse old)
-      -- it fails with `TooLarge` if and only if the queue takes no more futures
-      pub large : (result ≡ Err TooLarge) ↔ QueueIsAtBound numbers.refuses old
-      -- `keeps` holds of the set before and after
-      pub set : numbers.keeps old.set new.set
+  -- a push that drops the future if it fails, and returns the reason
+  pub record AddsOrStays (result : Result (Unit {0}) NewFault) (new : Ordered Q A) : Type 0 where
+    -- if the push succeeds, the future was added at this end
+    pub pushed : OnOk result (adds numbers.pushes old future new)
+    -- if the push fails, the queue does not change
+    pub stays : OnErr result (new ≡ old)
+    -- if the push fails, one of the reasons of `MayRefuse` held
+    pub may_refuse : OnErr result (MayRefuse numbers.may_refuse old)
+    -- it fails with `TooLarge` if and only if the queue takes no more futures
+    pub large : (result ≡ Err TooLarge) ↔ QueueIsAtBound numbers.refuses old
+    -- `keeps` holds of the set before and after
+    pub set : numbers.keeps old.set new.set
 
 module _ {F Q A : Type 0} (pushes : Q → F → ℕ → Q → Type 0) where
   -- the future was pushed into the set, with a number that no entry in progress had
-  pub record PushesNumbered (old : Ordered Q A) (future : F) (i : ℕ)
-      (new : Ordered Q A) : Type 0 where
+  pub record PushesNumbered (old : Ordered Q A) (future : F) (i : ℕ) (new : Ordered Q A) : Type 0 where
     pub unused : IsUnused i old.entries
     pub pushed : pushes old.set future i new.set
     pub room : new.room ≡ old.room
@@ -203,12 +187,7 @@ BesideTask gives old answer new = gives old.0 answer new.0 old.1 new.1
 -- `NumberedPolls<R>`; the rule R says how one held future is polled.
 module _ {Q R A : Type 0} (count : Q → ℕ) (keeps : Q → Q → Type 0) (polls : NumberedPollsOf Q R A) where
   -- What one poll leaves of a queue and of the task.
-  pub record LeavesQueue
-      {B : Type 0}
-      (old : Ordered Q A)
-      (answer : Poll B)
-      (new : Ordered Q A)
-      (cx left : Context)
+  pub record LeavesQueue {B : Type 0} (old : Ordered Q A) (answer : Poll B) (new : Ordered Q A) (cx left : Context)
       : Type 0 where
     -- `keeps` holds of the set before and after, and `room` does not change
     pub set : keeps old.set new.set
@@ -223,11 +202,7 @@ module _ {Q R A : Type 0} (count : Q → ℕ) (keeps : Q → Q → Type 0) (poll
     pub pollable : polls.can_poll new.set
 
   -- One poll, which takes the queue from `old` to `new` and the task from `cx` to `left`.
-  pub record PollsOrdered
-      (old : Ordered Q A)
-      (answer : Poll (Option A))
-      (new : Ordered Q A)
-      (cx left : Context)
+  pub record PollsOrdered (old : Ordered Q A) (answer : Poll (Option A)) (new : Ordered Q A) (cx left : Context)
       : Type 0 where
     -- The result, and whether the task is woken. While the front is in progress the set is polled, and each output is
     -- kept in its entry. The result is then the front's output, `None`, or the set's Pending. Each poll of the set says

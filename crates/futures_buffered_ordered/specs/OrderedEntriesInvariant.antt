@@ -20,13 +20,8 @@ pub record IsNumbered {Q A : Type 0} (with_number : ℕ → Q → ℕ) (count : 
   pub counted : count q.set ≡ count_by is_running q.entries
 
 -- What additions, from `old` to `new`, keep of a queue, whether or not they succeed.
-pub record AddingKeeps
-    {Q A : Type 0}
-    (with_number : ℕ → Q → ℕ)
-    (count : Q → ℕ)
-    (keeps : Q → Q → Type 0)
-    (old new : Ordered Q A)
-    : Type 0 where
+pub record AddingKeeps {Q A : Type 0} (with_number : ℕ → Q → ℕ) (count : Q → ℕ) (keeps : Q → Q → Type 0)
+    (old new : Ordered Q A) : Type 0 where
   -- `keeps` holds of the set before and after
   pub set : keeps old.set new.set
   -- `room` does not change

@@ -2,24 +2,18 @@
 //!
 //! The futures are in a set that grows by groups. Each has an entry in a list, to which a push adds at either end. A
 //! poll yields the output of the front alone: an output that comes before its turn is kept in its entry.
+ghost use Rattle.futures_buffered_ordered.specs.Below.{IsFiniteSource, items_of, Extends};
 ghost use Rattle.std.specs.Prelude.{◌≡◌, ◌↔◌, ◌≤◌, [], length, IsTrue};
-ghost use Rattle.futures_buffered_core.specs.Drawn.{IsFiniteSource, items_of};
 ghost use Rattle.futures_buffered_core.specs.Made.{MakesGroup};
 ghost use Rattle.futures_buffered_core.specs.ReadyShared.{IsNewShared};
-ghost use Rattle.futures_buffered_unordered.specs.FuturesUnordered.{AnyNeeds, SetMayRefuse, SetRefuses};
-ghost use Rattle.futures_buffered_unordered.specs.FuturesUnordered.{no_groups};
+ghost use Rattle.futures_buffered_unordered.specs.FuturesUnordered.{AnyNeeds, SetMayRefuse, SetRefuses, no_groups};
 ghost use Rattle.futures_buffered_unordered.specs.PollsGrowing.{PollsGrowing};
-ghost use Rattle.futures_buffered_unordered.specs.Extended.{Extends};
 ghost use Rattle.futures_buffered_ordered.specs.OrderedEntries.{AddsBack, AddsFront, AddsOrStays, IsLength};
-ghost use Rattle.futures_buffered_ordered.specs.OrderedEntries.{PushesOrHandsBack, QueueIsAtBound};
-ghost use Rattle.futures_buffered_ordered.specs.OrderedEntries.{PollsOrdered, RefusesOne};
-ghost use Rattle.futures_buffered_ordered.specs.OrderedEntries.{without_entries};
-ghost use Rattle.futures_buffered_ordered.specs.FuturesOrdered.{EachInProgress, GrowingPushesNumber};
-ghost use Rattle.futures_buffered_ordered.specs.FuturesOrdered.{IsNewGrowingQueue};
-ghost use Rattle.futures_buffered_ordered.specs.FuturesOrdered.{SameLimit};
-ghost use Rattle.futures_buffered_ordered.specs.FuturesOrdered.{growing_numbers};
-ghost use Rattle.futures_buffered_ordered.specs.FuturesOrdered.{held_in_groups, held_in_groups_with};
-ghost use Rattle.futures_buffered_ordered.specs.FuturesOrdered.{MakesSharedQueue};
+ghost use Rattle.futures_buffered_ordered.specs.OrderedEntries.{PushesOrHandsBack, QueueIsAtBound, PollsOrdered};
+ghost use Rattle.futures_buffered_ordered.specs.OrderedEntries.{RefusesOne, without_entries};
+ghost use Rattle.futures_buffered_ordered.specs.FuturesOrdered.{EachInProgress, GrowingPushesNumber, IsNewGrowingQueue};
+ghost use Rattle.futures_buffered_ordered.specs.FuturesOrdered.{SameLimit, growing_numbers, held_in_groups};
+ghost use Rattle.futures_buffered_ordered.specs.FuturesOrdered.{held_in_groups_with, MakesSharedQueue};
 ghost use Rattle.futures_buffered_ordered.specs.Numbered.{of_numbered};
 
 use crate::numbered::{Numbered, PollNumbered};
@@ -139,6 +133,7 @@ impl<T: Drop, A: Drop, S: NewSource> Model for GrowingQueue<T, A, S> {
 
 impl<T: Drop, A: Drop, S: NewSource> GrowingQueue<T, A, S> {
     /// The number of entries, in progress and kept.
+    #[tactic(auto, using(crate::proofs::OrderedEntriesInvariantLemmas::is_length))]
     pub fn len(&self) -> usize
         ensures { IsLength held_in_groups_with held_in_groups self.now result }
     {

@@ -2,20 +2,17 @@
 //!
 //! The futures are in a bounded set. Each has an entry in a list, to which a push adds at either end. A poll yields the
 //! output of the front alone: an output that comes before its turn is kept in its entry.
+ghost use Rattle.futures_buffered_ordered.specs.Below.{IsFiniteSource, items_of, slot_count, emptied, held_in};
+ghost use Rattle.futures_buffered_ordered.specs.Below.{slots_in, Extends, MakesFull, PollsBounded};
 ghost use Rattle.std.specs.Prelude.{◌≡◌, ◌↔◌, ◌<◌, ◌≤◌, length, IsOk, IsTrue};
-ghost use Rattle.futures_buffered_core.specs.Drawn.{IsFiniteSource, items_of};
 ghost use Rattle.futures_buffered_core.specs.Made.{MakesSlots};
 ghost use Rattle.futures_buffered_core.specs.ReadyShared.{IsNewShared, MarksShared};
-ghost use Rattle.futures_buffered_core.specs.SlotMap.{slot_count};
-ghost use Rattle.futures_buffered_unordered.specs.FuturesUnorderedBounded.{emptied, held_in, slots_in};
-ghost use Rattle.futures_buffered_unordered.specs.Extended.{Extends, MakesFull};
-ghost use Rattle.futures_buffered_unordered.specs.PollsBounded.{PollsBounded};
 ghost use Rattle.futures_buffered_ordered.specs.Numbered.{held_with, of_numbered};
 ghost use Rattle.futures_buffered_ordered.specs.OrderedEntries.{AddsBack, AddsFront, IsLength, PushesOrHandsBack};
 ghost use Rattle.futures_buffered_ordered.specs.OrderedEntries.{PollsOrdered, RefusesOne, without_entries};
 ghost use Rattle.futures_buffered_ordered.specs.FuturesOrderedBounded.{EachRunning, HoldsInOrder, IsNewBoundedQueue};
-ghost use Rattle.futures_buffered_ordered.specs.FuturesOrderedBounded.{PushesEntry, PushesNumber};
-ghost use Rattle.futures_buffered_ordered.specs.FuturesOrderedBounded.{QueueIsFull, SameSize, SetIsFull, TakesFewNames};
+ghost use Rattle.futures_buffered_ordered.specs.FuturesOrderedBounded.{PushesEntry, PushesNumber, QueueIsFull};
+ghost use Rattle.futures_buffered_ordered.specs.FuturesOrderedBounded.{SameSize, SetIsFull, TakesFewNames};
 ghost use Rattle.futures_buffered_ordered.specs.FuturesOrderedBounded.{bounded_numbers};
 
 use crate::numbered::{Numbered, PollNumbered};
@@ -136,6 +133,7 @@ impl<T: Drop, A: Drop, S: ReadySource> Model for BoundedQueue<T, A, S> {
 
 impl<T: Drop, A: Drop, S: ReadySource> BoundedQueue<T, A, S> {
     /// The number of entries, in progress and kept.
+    #[tactic(auto, using(crate::proofs::FuturesOrderedBoundedLemmas::bounded_length))]
     pub fn len(&self) -> usize
         ensures { IsLength held_with held_in self.now result }
     {
@@ -282,10 +280,7 @@ pub fn polls_take_few_names<T, S: ReadySource, R: PollOne<T, S::Waker>>()
     ensures { TakesFewNames R.PollOne S.ReadySource }
 {}
 
-impl<T: Drop, A: Drop, S: NewSource> BoundedQueue<T, A, S>
-where
-    T: SlotFuture<S::Waker, Output = A>,
-{
+impl<T: SlotFuture<S::Waker, Output = A>, A: Drop, S: NewSource> BoundedQueue<T, A, S> {
     /// Makes an empty queue of `n` slots over a source made for it.
     ///
     /// Allocates and takes time in proportion to `n`: for the slots, the source, and a place for `n` entries.

@@ -2,12 +2,11 @@
 //!
 //! A push adds an entry at either end. A poll yields the output of the front alone: an output that comes before its
 //! turn is kept in its entry.
-ghost use Rattle.std.specs.Prelude.{◌≡◌, ◌↔◌, ◌⊎◌, ◌<◌, ◌≤◌, ◌+◌, ℕ, [], ◌∷◌, length, true, false, IfOk, IfErr};
-ghost use Rattle.std.specs.Prelude.{IsErr, IsOk, IsTrue, MatchOption, OnErr, OnOk};
+ghost use Rattle.futures_buffered_ordered.specs.Below.{IsFiniteSource, items_of, Extends};
+ghost use Rattle.std.specs.Prelude.{◌≡◌, ◌↔◌, ◌⊎◌, ◌<◌, ◌≤◌, ◌+◌, ℕ, [], ◌∷◌, length, true, false, IfOk, IfErr, IsErr};
+ghost use Rattle.std.specs.Prelude.{IsOk, IsTrue, MatchOption, OnErr, OnOk};
 ghost use Rattle.std.specs.VecDeque.{deque_capacity};
 ghost use Rattle.futures.specs.Poll.{IfReady, OnPending};
-ghost use Rattle.futures_buffered_core.specs.Drawn.{IsFiniteSource, items_of};
-ghost use Rattle.futures_buffered_unordered.specs.Extended.{Extends};
 ghost use Rattle.futures_buffered_ordered.specs.Numbered.{PushesInto};
 ghost use Rattle.futures_buffered_ordered.specs.OrderedEntries.{AddsBack, AddsFront, BesideTask, Kept, LastStep};
 ghost use Rattle.futures_buffered_ordered.specs.OrderedEntries.{LeavesQueue, NoNumberTwice, PollsOrdered};

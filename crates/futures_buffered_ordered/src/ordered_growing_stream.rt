@@ -17,12 +17,7 @@ use futures_buffered_unordered::poll_one::PollFuture;
 use futures_buffered_unordered::slot_future::SlotFuture;
 use std::fmt;
 
-impl<T, A, S> Stream for GrowingQueue<T, A, S>
-where
-    T: SlotFuture<S::Waker, Output = A>,
-    A: Drop,
-    S: NewSource,
-{
+impl<T: SlotFuture<S::Waker, Output = A>, A: Drop, S: NewSource> Stream for GrowingQueue<T, A, S> {
     type Item = A;
 
     ghost can_poll = { λ q. EachInProgress T.can_poll q.set };
@@ -42,12 +37,8 @@ where
     }
 }
 
-impl<T, A, S> FusedStream for GrowingQueue<T, A, S>
-where
-    T: SlotFuture<S::Waker, Output = A>,
-    A: Drop,
-    S: NewSource,
-{
+impl<T: SlotFuture<S::Waker, Output = A>, A: Drop, S: NewSource> FusedStream
+    for GrowingQueue<T, A, S> {
     ghost use Rattle.std.specs.Prelude.{◌≡◌};
 
     ghost is_over = { λ q. length q.entries ≡ 0 };

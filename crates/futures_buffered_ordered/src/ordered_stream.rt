@@ -1,6 +1,6 @@
 //! The bounded ordered queue as a stream, which says how many outputs are left and whether it has ended.
+ghost use Rattle.futures_buffered_ordered.specs.Below.{held_in};
 ghost use Rattle.std.specs.Prelude.{◌<◌, length};
-ghost use Rattle.futures_buffered_unordered.specs.FuturesUnorderedBounded.{held_in};
 ghost use Rattle.futures_buffered_ordered.specs.OrderedEntries.{ComesInOrder, PollsOrdered};
 ghost use Rattle.futures_buffered_ordered.specs.FuturesOrderedBounded.{EachRunning, SameSize, SetMayGive};
 
@@ -16,12 +16,8 @@ use futures_buffered_unordered::poll_one::PollFuture;
 use futures_buffered_unordered::slot_future::SlotFuture;
 use std::fmt;
 
-impl<T, A, S> Stream for BoundedQueue<T, A, S>
-where
-    T: SlotFuture<S::Waker, Output = A>,
-    A: Drop,
-    S: ReadySource,
-{
+impl<T: SlotFuture<S::Waker, Output = A>, A: Drop, S: ReadySource> Stream
+    for BoundedQueue<T, A, S> {
     type Item = A;
 
     ghost can_poll = { λ q. EachRunning T.can_poll q.set };
@@ -41,12 +37,8 @@ where
     }
 }
 
-impl<T, A, S> FusedStream for BoundedQueue<T, A, S>
-where
-    T: SlotFuture<S::Waker, Output = A>,
-    A: Drop,
-    S: ReadySource,
-{
+impl<T: SlotFuture<S::Waker, Output = A>, A: Drop, S: ReadySource> FusedStream
+    for BoundedQueue<T, A, S> {
     ghost use Rattle.std.specs.Prelude.{◌≡◌};
 
     ghost is_over = { λ q. length q.entries ≡ 0 };

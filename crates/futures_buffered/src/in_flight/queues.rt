@@ -1,9 +1,8 @@
 //! Sets and queues of futures of `futures`, as what a buffer holds.
-ghost use Rattle.futures_buffered_core.specs.SlotMap.{held_count};
+ghost use Rattle.futures_buffered.specs.Below.{held_count, CanPollQueue, PollsQueued, PushesQueued};
 ghost use Rattle.futures_buffered_in_flight.specs.InFlight.{ComesFromSlots, FlightsWaitAt, flight_slots};
-ghost use Rattle.futures_buffered_in_flight.specs.InFlightOrdered.{AnswersInTurn, CanPollOrdered, ComesOfEach, EntersBack};
-ghost use Rattle.futures_buffered_in_flight.specs.InFlightOrdered.{OrderedWaitsAt, ordered_room};
-ghost use Rattle.futures_buffered_in_flight.specs.InFlightQueue.{CanPollQueue, PollsQueued, PushesQueued};
+ghost use Rattle.futures_buffered_in_flight.specs.InFlightOrdered.{AnswersInTurn, CanPollOrdered, ComesOfEach};
+ghost use Rattle.futures_buffered_in_flight.specs.InFlightOrdered.{EntersBack, OrderedWaitsAt, ordered_room};
 ghost use Rattle.futures_buffered.specs.FutureQueue.{OnlyPushes};
 
 use crate::future_queue::FutureQueue;

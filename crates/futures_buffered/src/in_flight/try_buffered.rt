@@ -1,11 +1,10 @@
 //! Adaptors of a stream of futures of `futures` and of errors, as methods of the stream.
 //!
 //! Each holds the futures in a `FuturesUnorderedBounded` or a `FuturesOrderedBounded`. A future may contain closures.
+ghost use Rattle.futures_buffered.specs.Below.{MakesSlots, CanPollQueue};
 ghost use Rattle.std.specs.Prelude.{◌<◌, IfOk};
-ghost use Rattle.futures_buffered_core.specs.Made.{MakesSlots};
 ghost use Rattle.futures_buffered_in_flight.specs.InFlight.{IsNewInFlight};
 ghost use Rattle.futures_buffered_in_flight.specs.InFlightOrdered.{CanPollOrdered, IsNewInOrder};
-ghost use Rattle.futures_buffered_in_flight.specs.InFlightQueue.{CanPollQueue};
 ghost use Rattle.futures_buffered.specs.Buffer.{IsNewBuffer};
 ghost use Rattle.futures_buffered.specs.Drain.{HoldsPollable, IsNewDrain};
 

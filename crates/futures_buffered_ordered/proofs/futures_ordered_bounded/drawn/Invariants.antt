@@ -1,5 +1,5 @@
 use Rattle.std.proofs.Common.{◌≡◌, ◌≤◌, vec_len}
-use Rattle.futures_buffered_table.specs.declared.answer.TheConstants.{MAX_CAPACITY}
+use Rattle.futures_buffered_ordered.proofs.Common.{MAX_CAPACITY}
 use Rattle.futures_buffered_ordered.proofs.futures_ordered_bounded.drawn.Given as goal
 
 abbrev pub invariant-loop-item : goal.invariant-loop-item

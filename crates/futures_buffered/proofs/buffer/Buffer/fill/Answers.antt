@@ -1,6 +1,5 @@
 use Rattle.std.proofs.Common.{[], ◌∷◌, ◌++◌, ◌∙◌, None, refl, subst, sym}
-use Rattle.std.proofs.lemmas.Fn.{FoldsTo-push}
-use Rattle.futures_buffered.specs.Buffer.{Buffering, HasNoTurn, PollsStream, DrawsItem}
+use Rattle.futures_buffered.proofs.Common.{FoldsTo-push, Buffering, HasNoTurn, PollsStream, DrawsItem}
 use Rattle.futures_buffered.proofs.BufferLemmas.{after_draws, asked_had_turn}
 use Rattle.futures_buffered.proofs.buffer.Buffer.fill.Goals as goal
 

@@ -1,8 +1,5 @@
 use Rattle.std.proofs.Common.{◌≡◌, ◌-◌, List, None}
-use Rattle.std.specs.List.{FoldsTo}
-use Rattle.futures.specs.Task.{Keeps}
-use Rattle.futures.specs.Runs.{Within}
-use Rattle.futures_buffered.specs.Buffer.{PollsStream, HasNoTurn, DrawsItem, CanDraw, BufferGives}
+use Rattle.futures_buffered.proofs.Common.{FoldsTo, Keeps, Within, PollsStream, HasNoTurn, DrawsItem, CanDraw, BufferGives}
 use Rattle.futures_buffered.proofs.buffer.Buffer.fill.Given as goal
 
 abbrev pub invariant-draws : goal.invariant-draws

@@ -1,4 +1,4 @@
-use Rattle.std.proofs.Common.{Some, sym, refl}
+use Rattle.futures_buffered.proofs.Common.{Some, sym, refl}
 use Rattle.futures_buffered.proofs.BufferLemmas.{poll_of}
 use Rattle.futures_buffered.proofs.buffer.BufferStream.poll_next.Goals as goal
 

@@ -1,5 +1,4 @@
-use Rattle.std.proofs.Common.{rules, is_some}
-use Rattle.std.proofs.lemmas.List.Sums.{count_by-le-length}
+use Rattle.futures_buffered.proofs.Common.{rules, is_some, count_by-le-length}
 use Rattle.futures_buffered_unordered.proofs.PollsBoundedLemmas.{answers_as_stream}
 use Rattle.futures_buffered.proofs.BufferUnorderedLemmas.{empty_polled, pending_holds}
 use Rattle.futures_buffered.proofs.buffer_unordered.CompletionQueueFutureQueue.poll_output.Goals as goal

@@ -1,7 +1,4 @@
-use Rattle.futures_buffered_unordered.specs.PollsBounded.{itself}
-use Rattle.futures_buffered_ordered.specs.FuturesOrderedBounded.{SetGives}
-use Rattle.futures_buffered_unordered.specs.FuturesUnorderedBounded.{held_in}
-use Rattle.futures_buffered_ordered.proofs.OrderedEntriesLemmas.{as_many_of, empty_of, fewer_of}
+use Rattle.futures_buffered.proofs.Common.{itself, SetGives, held_in, as_many_of, empty_of, fewer_of}
 use Rattle.futures_buffered_ordered.proofs.FuturesOrderedBoundedLemmas.{queue_gives_of}
 use Rattle.futures_buffered_ordered.proofs.OrderedStreamLemmas.{bounded_answers}
 use Rattle.futures_buffered.proofs.BufferedOrderedLemmas.{still_fits, pending_holds, waits_covered}

@@ -1,5 +1,4 @@
-use Rattle.futures_buffered_ordered.specs.FuturesOrderedBounded.{PushesNumber}
-use Rattle.futures_buffered_ordered.proofs.OrderedEntriesLemmas.{one_entry_more}
+use Rattle.futures_buffered.proofs.Common.{PushesNumber, one_entry_more}
 use Rattle.futures_buffered.proofs.BufferedOrderedLemmas.{adds_behind, pushed_can}
 use Rattle.futures_buffered.proofs.buffered_ordered.OrderedQueueFutureQueue.push.Goals as goal
 

@@ -1,6 +1,5 @@
-use Rattle.std.proofs.Common.{rules, ◌≡◌, ◌∷◌, Some, None, refl}
-use Rattle.std.specs.Prelude.{map}
-use Rattle.futures.specs.declared.task.Poll.TheVariants.{Ready, Pending}
+use Rattle.std.proofs.Common.{rules, ◌≡◌, ◌∷◌, Some, None, refl, map}
+use Rattle.futures_buffered.proofs.Common.{Ready, Pending}
 use Rattle.futures_buffered.proofs.drain.DrainTakeTurns.turn.Goals as goal
 
 pub returns-in-Pending : goal.returns-in-Pending

@@ -1,4 +1,4 @@
-use Rattle.std.proofs.Common.{sym}
+use Rattle.futures_buffered.proofs.Common.{sym}
 use Rattle.futures_buffered.proofs.ForEachConcurrentLemmas.{turn_of}
 use Rattle.futures_buffered.proofs.for_each_concurrent.ForEachByTakeTurns.turn.Goals as goal
 

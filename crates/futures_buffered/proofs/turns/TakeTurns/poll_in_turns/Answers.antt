@@ -1,6 +1,5 @@
 use Rattle.std.proofs.Common.{rules, ◌≡◌, ◌∷◌, ◌++◌, [], None, refl, inl, inr, arith}
-use Rattle.std.proofs.lemmas.Fn.{FoldsTo-push}
-use Rattle.std.proofs.lemmas.List.{length_push}
+use Rattle.futures_buffered.proofs.Common.{FoldsTo-push, length_push}
 use Rattle.futures_buffered.proofs.TurnsLemmas.{GoesOn, leaves_then}
 use Rattle.futures_buffered.proofs.turns.TakeTurns.poll_in_turns.Goals as goal
 

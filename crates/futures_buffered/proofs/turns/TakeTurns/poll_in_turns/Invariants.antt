@@ -1,7 +1,5 @@
 use Rattle.std.proofs.Common.{◌≡◌, List, length}
-use Rattle.std.specs.List.{FoldsTo}
-use Rattle.futures.specs.declared.task.Poll.TheVariants.{Pending}
-use Rattle.futures_buffered.specs.Turns.{TurnLeaves}
+use Rattle.futures_buffered.proofs.Common.{FoldsTo, Pending, TurnLeaves}
 use Rattle.futures_buffered.proofs.TurnsLemmas.{GoesOn}
 use Rattle.futures_buffered.proofs.turns.TakeTurns.poll_in_turns.Given as goal
 

@@ -1,4 +1,4 @@
-use Rattle.std.proofs.Common.{rules}
+use Rattle.futures_buffered_ordered.proofs.Common.{rules}
 use Rattle.futures_buffered_ordered.proofs.FuturesOrderedLemmas.{numbers_left}
 use Rattle.futures_buffered_ordered.proofs.futures_ordered.FuturesUnorderedNumberedPollNumberedSet.poll_numbered.Goals as goal
 

@@ -1,10 +1,5 @@
 use Rattle.std.proofs.Common.{◌<◌, rules, max, inl, inr}
-use Rattle.futures_buffered_table.specs.declared.answer.TheConstants.{MAX_CAPACITY}
-use Rattle.futures_buffered_core.specs.Drawn.{Draws, DrawsAndOne, SaysAtLeast, items_of}
-use Rattle.futures_buffered_core.specs.ReadyShared.{MarksShared, IsNewShared}
-use Rattle.futures_buffered_unordered.specs.FuturesUnordered.{SetRefuses}
-use Rattle.futures_buffered_ordered.specs.FuturesOrdered.{GrowingPushesNumber, IsNewGrowingQueue}
-use Rattle.futures_buffered_ordered.specs.OrderedEntries.{QueueIsAtBound}
+use Rattle.futures_buffered_ordered.proofs.Common.{MAX_CAPACITY, Draws, DrawsAndOne, SaysAtLeast, items_of, MarksShared, IsNewShared, SetRefuses, GrowingPushesNumber, IsNewGrowingQueue, QueueIsAtBound}
 use Rattle.futures_buffered_ordered.proofs.OrderedEntriesLemmas.{adds_one_more}
 use Rattle.futures_buffered_ordered.proofs.futures_ordered.GrowingQueue+T+A+SharedReady.from_iter.Goals as goal
 

@@ -1,6 +1,4 @@
-use Rattle.futures_buffered_core.specs.ReadyShared.{IsNewShared, MarksShared}
-use Rattle.futures_buffered_ordered.specs.OrderedEntries.{AddsEachBack}
-use Rattle.futures_buffered_ordered.specs.FuturesOrdered.{GrowingPushesNumber}
+use Rattle.futures_buffered_ordered.proofs.Common.{IsNewShared, MarksShared, AddsEachBack, GrowingPushesNumber}
 use Rattle.futures_buffered_ordered.proofs.futures_ordered.GrowingQueue+T+A+SharedReady.from_iter.Given as goal
 
 abbrev pub invariant-loop-item : goal.invariant-loop-item

@@ -1,8 +1,4 @@
-use Rattle.std.proofs.Common.{ap, ◌∙◌}
-use Rattle.futures_buffered_core.specs.ReadyShared.{Shared}
-use Rattle.futures_buffered_unordered.specs.FuturesUnordered.{Growing}
-use Rattle.futures_buffered_ordered.specs.FuturesOrdered.{held_in_groups, held_in_groups_with}
-use Rattle.futures_buffered_ordered.specs.declared.numbered.Numbered.{Numbered}
+use Rattle.futures_buffered_ordered.proofs.Common.{ap, ◌∙◌, Shared, Growing, held_in_groups, held_in_groups_with, Numbered}
 use Rattle.futures_buffered_ordered.proofs.OrderedEntriesInvariantLemmas.{new_is_numbered}
 use Rattle.futures_buffered_ordered.proofs.futures_ordered.GrowingQueue+T+A+SharedReady.new.Goals as goal
 

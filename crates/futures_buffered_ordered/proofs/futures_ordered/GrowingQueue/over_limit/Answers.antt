@@ -1,7 +1,4 @@
-use Rattle.std.proofs.Common.{rules, sym, subst}
-use Rattle.futures_buffered_unordered.specs.FuturesUnordered.{Growing, IsNewGrowing}
-use Rattle.futures_buffered_ordered.specs.declared.numbered.Numbered.{Numbered}
-use Rattle.futures_buffered_ordered.specs.FuturesOrdered.{held_in_groups, held_in_groups_with}
+use Rattle.futures_buffered_ordered.proofs.Common.{rules, sym, subst, Growing, IsNewGrowing, Numbered, held_in_groups, held_in_groups_with}
 use Rattle.futures_buffered_ordered.proofs.FuturesOrderedLemmas.{new_held, new_numbers}
 use Rattle.futures_buffered_ordered.proofs.OrderedEntriesInvariantLemmas.{new_is_numbered}
 use Rattle.futures_buffered_ordered.proofs.futures_ordered.GrowingQueue.over_limit.Goals as goal

@@ -1,8 +1,5 @@
 use Rattle.std.proofs.Common.{◌≡◌, ◌++◌, length}
-use Rattle.futures_buffered_core.specs.ReadyShared.{MarksShared}
-use Rattle.futures_buffered_core.specs.SlotMap.{slot_count}
-use Rattle.futures_buffered_ordered.specs.OrderedEntries.{AddsEachBack}
-use Rattle.futures_buffered_ordered.specs.FuturesOrderedBounded.{PushesNumber}
+use Rattle.futures_buffered_ordered.proofs.Common.{MarksShared, slot_count, AddsEachBack, PushesNumber}
 use Rattle.futures_buffered_ordered.proofs.futures_ordered_bounded.BoundedQueue+T+A+SharedReady.from_iter.Given as goal
 
 abbrev pub invariant-loop-item : goal.invariant-loop-item

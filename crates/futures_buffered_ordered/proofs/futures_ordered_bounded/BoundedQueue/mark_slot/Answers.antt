@@ -1,6 +1,4 @@
-use Rattle.std.proofs.Common.{◌∙◌, ap, sym, subst}
-use Rattle.futures_buffered_ordered.specs.FuturesOrderedBounded.{OrderedBounded}
-use Rattle.futures_buffered_ordered.specs.FuturesOrderedBoundedInvariant.{KeepsBoundedQueue}
+use Rattle.futures_buffered_ordered.proofs.Common.{◌∙◌, ap, sym, subst, OrderedBounded, KeepsBoundedQueue}
 use Rattle.futures_buffered_ordered.proofs.FuturesOrderedBoundedLemmas.{marked_keeps}
 use Rattle.futures_buffered_ordered.proofs.futures_ordered_bounded.BoundedQueue.mark_slot.Goals as goal
 

@@ -1,6 +1,4 @@
-use Rattle.std.proofs.Common.{rules, ◌∙◌, ap, arith}
-use Rattle.futures_buffered_unordered.specs.FuturesUnorderedBounded.{Bounded}
-use Rattle.futures_buffered_ordered.specs.declared.numbered.Numbered.{Numbered}
+use Rattle.futures_buffered_ordered.proofs.Common.{rules, ◌∙◌, ap, arith, Bounded, Numbered}
 use Rattle.futures_buffered_ordered.proofs.FuturesOrderedBoundedLemmas.{new_keeps}
 use Rattle.futures_buffered_ordered.proofs.futures_ordered_bounded.BoundedQueue.over_limit.Goals as goal
 

@@ -1,9 +1,5 @@
-use Rattle.std.proofs.lemmas.Grind.{common_steps}
+use Rattle.futures_buffered_ordered.proofs.Common.{common_steps, err_from_is_err_and, deque_capacity, AddsBack, numbered_from}
 use Rattle.std.proofs.Common.{rules, ◌≡◌, ◌+◌, ◌++◌, [], ◌∷◌, ◌%◌, ◌^◌, List, Option, None, length, refl, ap, arith, ◌∙◌}
-use Rattle.std.proofs.lemmas.Result.{err_from_is_err_and}
-use Rattle.std.specs.VecDeque.{deque_capacity}
-use Rattle.futures_buffered_ordered.specs.OrderedEntries.{AddsBack}
-use Rattle.futures_buffered_ordered.specs.OrderedEntriesInvariant.{numbered_from}
 use Rattle.futures_buffered_ordered.proofs.OrderedEntriesInvariantLemmas.{added_back, not_added}
 use Rattle.futures_buffered_ordered.proofs.ordered_entries.OrderedEntries.add_back.Goals as goal
 

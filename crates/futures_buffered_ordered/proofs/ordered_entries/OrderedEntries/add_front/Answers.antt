@@ -1,8 +1,5 @@
 use Rattle.std.proofs.Common.{rules, ◌≡◌, ◌+◌, ◌∷◌, ◌-◌, ◌%◌, ◌^◌, List, Option, None, refl, ap, arith, ◌∙◌}
-use Rattle.std.proofs.lemmas.Result.{err_from_is_err_and}
-use Rattle.std.specs.VecDeque.{deque_capacity}
-use Rattle.futures_buffered_ordered.specs.OrderedEntries.{AddsFront}
-use Rattle.futures_buffered_ordered.specs.OrderedEntriesInvariant.{numbered_from}
+use Rattle.futures_buffered_ordered.proofs.Common.{err_from_is_err_and, deque_capacity, AddsFront, numbered_from}
 use Rattle.futures_buffered_ordered.proofs.OrderedEntriesInvariantLemmas.{added_front, not_added}
 use Rattle.futures_buffered_ordered.proofs.ordered_entries.OrderedEntries.add_front.Goals as goal
 

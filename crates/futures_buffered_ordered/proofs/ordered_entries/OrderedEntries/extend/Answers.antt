@@ -1,7 +1,5 @@
-use Rattle.futures_buffered_core.specs.Drawn.{items_of}
-use Rattle.std.proofs.Common.{rules}
+use Rattle.futures_buffered_ordered.proofs.Common.{items_of, rules, AddsBack, RefusesOne}
 use Rattle.futures_buffered_unordered.specs.Extended.{ExtendsUntil}
-use Rattle.futures_buffered_ordered.specs.OrderedEntries.{AddsBack, RefusesOne}
 use Rattle.futures_buffered_ordered.proofs.ordered_entries.OrderedEntries.extend.Goals as goal
 
 pub returns-in_err-add_back-clause-extends : goal.returns-in_err-add_back-clause-extends

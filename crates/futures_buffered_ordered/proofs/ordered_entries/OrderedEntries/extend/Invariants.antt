@@ -1,5 +1,4 @@
-use Rattle.futures_buffered_ordered.specs.OrderedEntries.{AddsEachBack}
-use Rattle.futures_buffered_ordered.specs.OrderedEntriesInvariant.{AddingKeeps}
+use Rattle.futures_buffered_ordered.proofs.Common.{AddsEachBack, AddingKeeps}
 use Rattle.futures_buffered_ordered.proofs.ordered_entries.OrderedEntries.extend.Given as goal
 
 abbrev pub invariant-loop-item : goal.invariant-loop-item

@@ -1,5 +1,4 @@
-use Rattle.std.proofs.lemmas.Grind.{common_steps}
-use Rattle.std.proofs.Common.{rules, arith}
+use Rattle.futures_buffered_ordered.proofs.Common.{common_steps, rules, arith}
 use Rattle.futures_buffered_ordered.proofs.OrderedEntriesInvariantLemmas.{kept_is_numbered, kept_within, kept_yields}
 use Rattle.futures_buffered_ordered.proofs.ordered_entries.OrderedEntries.keep_next.Goals as goal
 

@@ -1,4 +1,4 @@
-use Rattle.std.proofs.Common.{arith}
+use Rattle.futures_buffered_ordered.proofs.Common.{arith}
 use Rattle.futures_buffered_ordered.proofs.OrderedEntriesInvariantLemmas.{numbered-length, once_numbered}
 use Rattle.futures_buffered_ordered.proofs.ordered_entries.OrderedEntries.len.Goals as goal
 

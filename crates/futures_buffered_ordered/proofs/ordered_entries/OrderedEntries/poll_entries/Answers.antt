@@ -1,7 +1,5 @@
 use Rattle.std.proofs.Common.{rules, ◌++◌, [], ◌∷◌, sym, subst, arith, ◌∙◌}
-use Rattle.std.proofs.lemmas.Fn.{FoldsTo-push}
-use Rattle.std.proofs.lemmas.List.{length_push}
-use Rattle.futures_buffered_ordered.specs.OrderedEntries.{BesideTask, SetYields, with_task}
+use Rattle.futures_buffered_ordered.proofs.Common.{FoldsTo-push, length_push, BesideTask, SetYields, with_task}
 use Rattle.futures_buffered_ordered.proofs.OrderedEntriesLemmas.{last_from}
 use Rattle.futures_buffered_ordered.proofs.ordered_entries.OrderedEntries.poll_entries.Goals as goal
 

@@ -1,8 +1,5 @@
 use Rattle.std.proofs.Common.{◌≡◌, ◌+◌, ℕ, List, length}
-use Rattle.std.specs.List.{FoldsTo}
-use Rattle.futures.specs.Task.{Keeps}
-use Rattle.futures_buffered_ordered.specs.OrderedEntries.{BesideTask, SetYields, with_task}
-use Rattle.futures_buffered_ordered.specs.OrderedEntriesInvariant.{IsNumbered}
+use Rattle.futures_buffered_ordered.proofs.Common.{FoldsTo, Keeps, BesideTask, SetYields, with_task, IsNumbered}
 use Rattle.futures_buffered_ordered.proofs.ordered_entries.OrderedEntries.poll_entries.Given as goal
 
 abbrev pub invariant-loop-self : goal.invariant-loop-self

@@ -1,6 +1,5 @@
 use Rattle.std.proofs.Common.{rules, ◌≡◌, ◌∷◌, ◌+◌, ◌%◌, ◌^◌, List, Option, Some, refl, ap, arith, ◌∙◌}
-use Rattle.futures_buffered_ordered.specs.OrderedEntries.{Entry, Kept}
-use Rattle.futures_buffered_ordered.specs.OrderedEntriesInvariant.{numbered_from}
+use Rattle.futures_buffered_ordered.proofs.Common.{Entry, Kept, numbered_from}
 use Rattle.futures_buffered_ordered.proofs.OrderedEntriesInvariantLemmas.{numbered-same, popped_is_numbered}
 use Rattle.futures_buffered_ordered.proofs.ordered_entries.OrderedEntries.pop_kept.Goals as goal
 

@@ -1,4 +1,4 @@
-use Rattle.futures_buffered_unordered.specs.PollsBounded.{itself}
+use Rattle.futures_buffered_ordered.proofs.Common.{itself}
 use Rattle.futures_buffered_ordered.proofs.OrderedStreamLemmas.{growing_answers}
 use Rattle.futures_buffered_ordered.proofs.ordered_growing_stream.GrowingQueueStream.TheImpl.Goals as goal
 

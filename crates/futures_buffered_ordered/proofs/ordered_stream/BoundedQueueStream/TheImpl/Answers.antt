@@ -1,4 +1,4 @@
-use Rattle.futures_buffered_unordered.specs.PollsBounded.{itself}
+use Rattle.futures_buffered_ordered.proofs.Common.{itself}
 use Rattle.futures_buffered_ordered.proofs.OrderedStreamLemmas.{bounded_answers}
 use Rattle.futures_buffered_ordered.proofs.ordered_stream.BoundedQueueStream.TheImpl.Goals as goal
 

@@ -1,4 +1,4 @@
-use Rattle.std.proofs.Common.{rules}
+use Rattle.futures_buffered.proofs.Common.{rules}
 use Rattle.futures_buffered.proofs.in_flight.buffered.BufferedStreamExt.buffered_ordered.Goals as goal
 
 pub returns-clause-made : goal.returns-clause-made
