@@ -206,7 +206,9 @@ impl<O: OuterWaker> PollerWaker<O> {
         ensures back { HasBack (T.made shown.now) self.old.own self.old.did self.new.own self.new.did }
     {
         if self.own.is_none() {
-            self.own = place.kept.take_back(&mut self.seat, shown);
+            if let Some(kept) = place.kept.take_back(&mut self.seat, shown) {
+                self.own = Some(kept);
+            }
         }
     }
 }
