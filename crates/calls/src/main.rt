@@ -6,10 +6,11 @@
 //! that a call made was refused, otherwise 0; and 4 if a file could not be gone through.
 #![tactic(auto)]
 
-use calls_lines::lines::run_lines;
-use calls_lines::session::{Session, new_session};
+use calls_lines::kinds::AllTypes;
 use calls_world::each::spread;
+use calls_world::lines::run_lines;
 use calls_world::report::Report;
+use calls_world::session::{Session, new_session};
 use std::alloc::{AllocError, AllocGlobal, Global};
 use std::env::{Args, Env};
 use std::fs::Files;
@@ -50,7 +51,7 @@ where
     let text = read(rt, file)?;
     let text = spread(rt.alloc(), text.as_str())?;
     let lines = lines_of(rt.alloc(), text.as_str())?;
-    run_lines(session, lines.as_slice());
+    run_lines::<AllTypes>(session, lines.as_slice());
     print_report(rt, &mut session.report)
 }
 

@@ -1,16 +1,16 @@
 //! Adaptors: buffers over a stream of futures, and the for-each.
 ghost use Rattle.std.specs.Prelude.{◌<◌, ◌≤◌};
-ghost use Rattle.calls_world.specs.declared.values.TryUnitFuture.{TryUnitFuture};
-ghost use Rattle.calls_world.specs.declared.values.UnitFuture.{UnitFuture};
 
-use crate::answer::{Answer, Given, Reply, Told, ask, of_end, of_next, of_try_end};
-use crate::lines::run_made;
-use crate::session::{Options, Session, first_of};
-use crate::subject::{Call, Subject};
+use crate::ask::ask;
+use crate::kinds::AllTypes;
+use calls_world::answer::{Answer, Item, Reply, Told, of_end, of_next, of_try_end};
 use calls_world::command::Query;
-use calls_world::shared_world::SharedWorld;
-use calls_world::source::{FutureSource, TryFutureSource};
-use calls_world::values::{NumberFuture, TryFuture, TryUnitFuture, UnitFuture};
+use calls_world::lines::run_made;
+use calls_world::session::{Options, Session, first_of};
+use calls_world::source::{Source, TrySource, TryUnitSource, UnitSource};
+use calls_world::subject::{Begun, Call, Subject};
+use calls_world::values::{TryFuture, TryUnitFuture, UnitFuture};
+use calls_world::world::SharedWorld;
 use futures::stream::TryStreamExt;
 use futures::task::Context;
 use futures::{Future, Stream};
@@ -26,10 +26,6 @@ use futures_buffered_core::ready_core::NewFault;
 use futures_buffered_core::ready_shared::SharedReady;
 use futures_buffered_core::ready_source::ReadySource;
 use futures_buffered_sets::{FusedFuture, FusedStream, SizeHint, SlotFuture};
-
-pub type Source = FutureSource<NumberFuture>;
-
-pub type TrySource = TryFutureSource<TryFuture>;
 
 // No line chose how the object is made: it is made by the method of its source.
 fn is_usual(options: &Options) -> bool {
@@ -52,9 +48,9 @@ fn new_buffer<St: Drop, Q: NewQueue<Env = (), Source = SharedReady>>(
     }
 }
 
-impl<St: Stream + SizeHint, Q: FutureQueue<St::Item>> Subject for Buffer<St, Q>
+impl<St: Stream + SizeHint, Q: FutureQueue<St::Item>> Subject<AllTypes> for Buffer<St, Q>
 where
-    Q::Output: Given,
+    Q::Output: Item,
 {
     ghost can_poll = { (buffer : Self) → ⟦<Buffer<St, Q> as Stream>⟧.can_poll buffer };
 
@@ -75,7 +71,7 @@ where
 pub fn unordered(session: &Session, n: usize) -> Result<BufferUnordered<Source>, NewFault>
     requires { 0 < n }
 {
-    let source: Source = FutureSource::new(&session.world, session.options.hint)?;
+    let source: Source = session.source();
     if is_usual(&session.options) {
         source.buffered_unordered(session.options.alloc, n)
     } else {
@@ -86,7 +82,7 @@ pub fn unordered(session: &Session, n: usize) -> Result<BufferUnordered<Source>,
 pub fn ordered(session: &Session, n: usize) -> Result<BufferedOrdered<Source>, NewFault>
     requires { 0 < n }
 {
-    let source: Source = FutureSource::new(&session.world, session.options.hint)?;
+    let source: Source = session.source();
     if is_usual(&session.options) {
         source.buffered_ordered(session.options.alloc, n)
     } else {
@@ -100,7 +96,7 @@ pub fn try_unordered(
 ) -> Result<TryBufferUnordered<TrySource, TryFuture>, NewFault>
     requires { 0 < n }
 {
-    let source: TrySource = TryFutureSource::new(&session.world, session.options.hint)?;
+    let source: TrySource = session.source();
     if is_usual(&session.options) {
         source.try_buffered_unordered(session.options.alloc, n)
     } else {
@@ -114,7 +110,7 @@ pub fn try_ordered(
 ) -> Result<TryBufferedOrdered<TrySource, TryFuture>, NewFault>
     requires { 0 < n }
 {
-    let source: TrySource = TryFutureSource::new(&session.world, session.options.hint)?;
+    let source: TrySource = session.source();
     if is_usual(&session.options) {
         source.try_buffered_ordered(session.options.alloc, n)
     } else {
@@ -122,7 +118,7 @@ pub fn try_ordered(
     }
 }
 
-impl<St: Stream, F, Fut, S: ReadySource> Subject for ForEachConcurrent<St, F, Fut, S>
+impl<St: Stream, F, Fut, S: ReadySource> Subject<AllTypes> for ForEachConcurrent<St, F, Fut, S>
 where
     F: FnMut(St::Item) -> Fut + Drop,
     Fut: SlotFuture<S::Waker, Output = ()>,
@@ -145,10 +141,10 @@ where
 
 fn new_for_each<F: FnMut(UnitFuture) -> UnitFuture + Drop>(
     options: &Options,
-    source: FutureSource<UnitFuture>,
+    source: UnitSource,
     n: usize,
     call: F,
-) -> Result<ForEachConcurrent<FutureSource<UnitFuture>, F, UnitFuture, SharedReady>, NewFault>
+) -> Result<ForEachConcurrent<UnitSource, F, UnitFuture, SharedReady>, NewFault>
     requires { 0 < n }
 {
     match options.limit {
@@ -163,25 +159,21 @@ fn new_for_each<F: FnMut(UnitFuture) -> UnitFuture + Drop>(
     }
 }
 
-pub fn run_for_each(
-    session: &mut Session,
-    numbers: &[usize],
-    lines: &[&str],
-) -> Result<usize, NewFault> {
-    let n = first_of(numbers);
+pub fn run_for_each(session: &mut Session, begun: Begun<'_>) -> Result<usize, NewFault> {
+    let n = first_of(begun.numbers);
     if n == 0 {
         return Ok(0);
     }
-    let source: FutureSource<UnitFuture> = FutureSource::new(&session.world, session.options.hint)?;
-    let world = session.world.share()?;
+    let source: UnitSource = session.source();
+    let world = session.world.share();
     let call = move |item: UnitFuture| item.called(&world);
     let made = new_for_each(&session.options, source, n, call);
-    run_made(session, made, lines)
+    run_made(session, made, begun)
 }
 
-impl<F: FnMut(TryUnitFuture) -> TryUnitFuture + Drop> Subject
-    for TryForEachConcurrent<TryFutureSource<TryUnitFuture>, F, TryUnitFuture, SharedReady> {
-    ghost can_poll = { (closure : F) (item : TryUnitFuture) → F.pre closure item };
+impl<F: FnMut(TryUnitFuture) -> TryUnitFuture + Drop> Subject<AllTypes>
+    for TryForEachConcurrent<TryUnitSource, F, TryUnitFuture, SharedReady> {
+    ghost can_poll = { (closure : F) (item : _) → F.pre closure item };
 
     fn poll(&mut self, cx: &mut Context<'_>, _outputs: &mut Vec<u64>) -> Answer {
         of_try_end(Future::poll(self, cx))
@@ -205,13 +197,10 @@ impl<F: FnMut(TryUnitFuture) -> TryUnitFuture + Drop> Subject
 
 fn new_try_for_each<F: FnMut(TryUnitFuture) -> TryUnitFuture + Drop>(
     options: &Options,
-    source: TryFutureSource<TryUnitFuture>,
+    source: TryUnitSource,
     n: usize,
     call: F,
-) -> Result<
-    TryForEachConcurrent<TryFutureSource<TryUnitFuture>, F, TryUnitFuture, SharedReady>,
-    NewFault,
->
+) -> Result<TryForEachConcurrent<TryUnitSource, F, TryUnitFuture, SharedReady>, NewFault>
     requires { 0 < n }
 {
     match options.limit {
@@ -225,21 +214,14 @@ fn new_try_for_each<F: FnMut(TryUnitFuture) -> TryUnitFuture + Drop>(
     }
 }
 
-pub fn run_try_for_each(
-    session: &mut Session,
-    numbers: &[usize],
-    lines: &[&str],
-) -> Result<usize, NewFault> {
-    let n = first_of(numbers);
+pub fn run_try_for_each(session: &mut Session, begun: Begun<'_>) -> Result<usize, NewFault> {
+    let n = first_of(begun.numbers);
     if n == 0 {
         return Ok(0);
     }
-    let source: TryFutureSource<TryUnitFuture> = TryFutureSource::new(
-        &session.world,
-        session.options.hint,
-    )?;
-    let world = session.world.share()?;
+    let source: TryUnitSource = session.source();
+    let world = session.world.share();
     let call = move |item: TryUnitFuture| item.called(&world);
     let made = new_try_for_each(&session.options, source, n, call);
-    run_made(session, made, lines)
+    run_made(session, made, begun)
 }

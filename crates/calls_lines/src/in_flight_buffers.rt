@@ -1,12 +1,13 @@
 //! Buffers of the kit's futures.
 ghost use Rattle.std.specs.Prelude.{◌<◌, IfOk};
 
-use crate::answer::{Answer, Given, Reply, of_next};
-use crate::session::Session;
-use crate::subject::{Call, Subject};
-use calls_world::shared_world::SharedWorld;
-use calls_world::source::{FutureSource, TryFutureSource};
-use calls_world::task_script::{KitFuture, KitTryFuture};
+use crate::kinds::AllTypes;
+use calls_world::answer::{Answer, Item, Reply, of_next};
+use calls_world::session::Session;
+use calls_world::source::{Source, TrySource};
+use calls_world::subject::{Call, Subject};
+use calls_world::values::TryFuture;
+use calls_world::world::SharedWorld;
 use futures::Stream;
 use futures::task::{Context, Poll};
 use futures_buffered::in_flight::{
@@ -15,10 +16,6 @@ use futures_buffered::in_flight::{
 };
 use futures_buffered_core::ready_core::NewFault;
 use std::marker::Model;
-
-pub type Source = FutureSource<KitFuture>;
-
-pub type TrySource = TryFutureSource<KitTryFuture>;
 
 /// An adaptor of a stream of the kit's futures. No clause says that it may be polled after its end, so it is dropped
 /// there.
@@ -37,9 +34,9 @@ impl<B: Stream> Model for KitBuffer<B> {
     ghost invariant = { λ b. IfSome b.buffer B.can_poll };
 }
 
-impl<B: Stream> Subject for KitBuffer<B>
+impl<B: Stream> Subject<AllTypes> for KitBuffer<B>
 where
-    B::Item: Given,
+    B::Item: Item,
 {
     fn poll(&mut self, cx: &mut Context<'_>, _outputs: &mut Vec<u64>) -> Answer {
         let Some(buffer) = &mut self.buffer else {
@@ -70,33 +67,33 @@ pub fn unordered(
 ) -> Result<KitBuffer<BufferUnordered<Source>>, NewFault>
     requires { 0 < n }
 {
-    let source: Source = FutureSource::new(&session.world, session.options.hint)?;
+    let source: Source = session.source();
     kept(source.buffered_unordered(session.options.alloc, n))
 }
 
 pub fn ordered(session: &Session, n: usize) -> Result<KitBuffer<BufferedOrdered<Source>>, NewFault>
     requires { 0 < n }
 {
-    let source: Source = FutureSource::new(&session.world, session.options.hint)?;
+    let source: Source = session.source();
     kept(source.buffered_ordered(session.options.alloc, n))
 }
 
 pub fn try_unordered(
     session: &Session,
     n: usize,
-) -> Result<KitBuffer<TryBufferUnordered<TrySource, KitTryFuture>>, NewFault>
+) -> Result<KitBuffer<TryBufferUnordered<TrySource, TryFuture>>, NewFault>
     requires { 0 < n }
 {
-    let source: TrySource = TryFutureSource::new(&session.world, session.options.hint)?;
+    let source: TrySource = session.source();
     kept(source.try_buffered_unordered(session.options.alloc, n))
 }
 
 pub fn try_ordered(
     session: &Session,
     n: usize,
-) -> Result<KitBuffer<TryBufferedOrdered<TrySource, KitTryFuture>>, NewFault>
+) -> Result<KitBuffer<TryBufferedOrdered<TrySource, TryFuture>>, NewFault>
     requires { 0 < n }
 {
-    let source: TrySource = TryFutureSource::new(&session.world, session.options.hint)?;
+    let source: TrySource = session.source();
     kept(source.try_buffered_ordered(session.options.alloc, n))
 }

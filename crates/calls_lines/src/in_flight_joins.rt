@@ -1,10 +1,11 @@
 //! Joins of the kit's futures, and merges of its streams.
-use crate::answer::{Answer, Reply, Told, ask, of_listed, of_next, of_outputs, of_results};
-use crate::session::{Session, first_of};
-use crate::subject::{Call, Subject};
-use calls_world::shared_world::SharedWorld;
-use calls_world::task_script::{KitFuture, KitStream, KitTryFuture};
-use calls_world::values::{Output, new_value, new_values};
+use crate::ask::ask;
+use crate::kinds::AllTypes;
+use calls_world::answer::{Answer, Reply, Told, of_full, of_next, of_outputs, of_results};
+use calls_world::session::{Session, first_of};
+use calls_world::subject::{Call, Subject};
+use calls_world::values::{Made, NumberFuture, NumberStream, Output, TryFuture, new_values};
+use calls_world::world::SharedWorld;
 use futures::task::Context;
 use futures::{Future, Stream};
 use futures_buffered::in_flight::{IterExt, JoinBy, MergeBounded, MergeUnbounded};
@@ -30,11 +31,11 @@ impl<R, F: Future, A: Drop> Model for Joined<R, F, A> {
     ghost invariant = { λ s. CanPollFlying F.Future s.join };
 }
 
-pub type KitJoin = Joined<AllOutputs, KitFuture, Output>;
+pub type KitJoin = Joined<AllOutputs, NumberFuture, Output>;
 
-pub type KitTryJoin = Joined<UntilError, KitTryFuture, Output>;
+pub type KitTryJoin = Joined<UntilError, TryFuture, Output>;
 
-impl Subject for KitJoin {
+impl Subject<AllTypes> for KitJoin {
     fn poll(&mut self, cx: &mut Context<'_>, outputs: &mut Vec<u64>) -> Answer {
         of_outputs(self.join.poll(cx), outputs)
     }
@@ -48,12 +49,12 @@ impl Subject for KitJoin {
 }
 
 pub fn join(session: &Session, ids: &[usize]) -> Result<KitJoin, NewFault> {
-    let futures: Vec<KitFuture> = new_values(&session.world, ids);
+    let futures: Vec<NumberFuture> = new_values(&session.world, ids);
     let join = futures.join_all(session.options.alloc)?;
     Ok(Joined { join })
 }
 
-impl Subject for KitTryJoin {
+impl Subject<AllTypes> for KitTryJoin {
     fn poll(&mut self, cx: &mut Context<'_>, outputs: &mut Vec<u64>) -> Answer {
         of_results(self.join.poll(cx), outputs)
     }
@@ -67,7 +68,7 @@ impl Subject for KitTryJoin {
 }
 
 pub fn try_join(session: &Session, ids: &[usize]) -> Result<KitTryJoin, NewFault> {
-    let futures: Vec<KitTryFuture> = new_values(&session.world, ids);
+    let futures: Vec<TryFuture> = new_values(&session.world, ids);
     let join = futures.try_join_all(session.options.alloc)?;
     Ok(Joined { join })
 }
@@ -75,7 +76,7 @@ pub fn try_join(session: &Session, ids: &[usize]) -> Result<KitTryJoin, NewFault
 /// A merge of streams of the kit. A call of a subject asks nothing of it, so each stream may be polled at any time.
 #[derive(Drop)]
 pub struct KitMerge {
-    merge: MergeUnbounded<KitStream>,
+    merge: MergeUnbounded<NumberStream>,
 }
 
 impl Model for KitMerge {
@@ -85,27 +86,21 @@ impl Model for KitMerge {
 
     ghost view = { λ _. tt };
 
-    ghost invariant = { λ m. CanPollStreams ⟦<KitStream as Stream>⟧ m.merge };
+    ghost invariant = { λ m. CanPollStreams ⟦<NumberStream as Stream>⟧ m.merge };
 }
 
-impl Subject for KitMerge {
+impl Subject<AllTypes> for KitMerge {
     fn poll(&mut self, cx: &mut Context<'_>, _outputs: &mut Vec<u64>) -> Answer {
         of_next(self.merge.poll_next(cx))
     }
 
     fn call(&mut self, call: Call<'_>, world: &SharedWorld, text: &mut String) -> Reply {
         match call {
-            Call::Push(_, id) => match new_value(world, id) {
-                Some(value) => {
-                    let pushed = self.merge.try_push(value);
-                    of_listed(pushed, self.merge.is_full())
-                }
-                None => Reply::Nothing,
-            },
-            Call::Clear => {
-                self.merge.clear();
-                Reply::Ok
+            Call::Push(_, id) => {
+                let pushed = self.merge.try_push(Made::new(world, id));
+                of_full(pushed, self.merge.is_full(), Reply::Refused)
             }
+            Call::Clear => self.merge.clear().told(),
             Call::Ask(query) => ask!(self.merge, query, text, Len len, IsEmpty is_empty,
                 Capacity capacity, IsFull is_full),
             _ => Reply::Nothing,
@@ -115,7 +110,7 @@ impl Subject for KitMerge {
 
 /// A merge without a limit of the streams of the line.
 pub fn merge(session: &Session, ids: &[usize]) -> Result<KitMerge, NewFault> {
-    let streams: Vec<KitStream> = new_values(&session.world, ids);
+    let streams: Vec<NumberStream> = new_values(&session.world, ids);
     let merge = streams.merge_unbounded(session.options.alloc)?;
     Ok(KitMerge { merge })
 }
@@ -128,7 +123,7 @@ pub fn bounded_merge(session: &Session, numbers: &[usize]) -> Result<KitMerge, N
 
 /// A merge of the streams of the line, with room for no other.
 pub fn bounded_merge_of(session: &Session, ids: &[usize]) -> Result<KitMerge, NewFault> {
-    let streams: Vec<KitStream> = new_values(&session.world, ids);
+    let streams: Vec<NumberStream> = new_values(&session.world, ids);
     let merge = streams.merge(session.options.alloc)?;
     Ok(KitMerge { merge })
 }

@@ -1,9 +1,11 @@
 //! Joins.
-use crate::answer::{Answer, Reply, Told, ask, of_outputs, of_results};
-use crate::session::Session;
-use crate::subject::{Call, Subject};
-use calls_world::shared_world::SharedWorld;
+use crate::ask::ask;
+use crate::kinds::AllTypes;
+use calls_world::answer::{Answer, Reply, Told, of_outputs, of_results};
+use calls_world::session::Session;
+use calls_world::subject::{Call, Subject};
 use calls_world::values::{NumberFuture, Output, TryFuture, new_values};
+use calls_world::world::SharedWorld;
 use futures::Future;
 use futures::task::Context;
 use futures_buffered::IterExt;
@@ -12,7 +14,7 @@ use futures_buffered_core::ready_shared::SharedReady;
 use futures_buffered_core::ready_source::ReadySource;
 use futures_buffered_sets::{FusedFuture, JoinAll, SlotFuture, TryJoinAll};
 
-impl<F: SlotFuture<S::Waker, Output = Output>, S: ReadySource> Subject for JoinAll<F, S> {
+impl<F: SlotFuture<S::Waker, Output = Output>, S: ReadySource> Subject<AllTypes> for JoinAll<F, S> {
     ghost can_poll = { (future : F) → F.can_poll future };
 
     fn poll(&mut self, cx: &mut Context<'_>, outputs: &mut Vec<u64>) -> Answer {
@@ -27,7 +29,7 @@ impl<F: SlotFuture<S::Waker, Output = Output>, S: ReadySource> Subject for JoinA
     }
 }
 
-impl<F, S: ReadySource> Subject for TryJoinAll<F, S>
+impl<F, S: ReadySource> Subject<AllTypes> for TryJoinAll<F, S>
 where
     F: SlotFuture<S::Waker, Output = Result<Output, u64>>,
 {

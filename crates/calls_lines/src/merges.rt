@@ -1,9 +1,11 @@
 //! Merges of streams.
-use crate::answer::{Answer, Given, Reply, Told, ask, of_growth, of_next, of_push};
-use crate::session::{Options, Session};
-use crate::subject::{Call, Subject};
-use calls_world::shared_world::SharedWorld;
-use calls_world::values::{NumberStream, Scripted, new_value, new_values};
+use crate::ask::ask;
+use crate::kinds::AllTypes;
+use calls_world::answer::{Answer, Item, Reply, Told, of_next, of_push};
+use calls_world::session::{Options, Session};
+use calls_world::subject::{Call, Subject};
+use calls_world::values::{Made, NumberStream, new_values};
+use calls_world::world::SharedWorld;
 use futures::Stream;
 use futures::task::Context;
 use futures_buffered::IterExt;
@@ -16,9 +18,9 @@ pub type Merge = MergeBounded<NumberStream, SharedReady>;
 
 pub type GrowingMerge = MergeUnbounded<NumberStream, SharedReady>;
 
-impl<St: Scripted + SlotStream<S::Waker>, S: ReadySource> Subject for MergeBounded<St, S>
+impl<St: Made + SlotStream<S::Waker>, S: ReadySource> Subject<AllTypes> for MergeBounded<St, S>
 where
-    St::Item: Given,
+    St::Item: Item,
 {
     ghost can_poll = { (stream : St) → St.can_poll stream };
 
@@ -28,15 +30,9 @@ where
 
     fn call(&mut self, call: Call<'_>, world: &SharedWorld, text: &mut String) -> Reply {
         match call {
-            Call::Push(_, id) => match new_value(world, id) {
-                Some(value) => of_push(self.try_push(value)),
-                None => Reply::Nothing,
-            },
-            Call::Extend(ids) => of_push(self.extend(new_values(world, ids))),
-            Call::Clear => {
-                self.clear();
-                Reply::Ok
-            }
+            Call::Push(_, id) => of_push(self.try_push(Made::new(world, id)), Reply::Full),
+            Call::Extend(ids) => of_push(self.extend(new_values(world, ids)), Reply::Full),
+            Call::Clear => self.clear().told(),
             Call::Ask(query) => ask!(self, query, text, Len len, IsEmpty is_empty,
                 Capacity capacity, IsFull is_full, SizeHint size_hint,
                 IsTerminated is_terminated),
@@ -45,9 +41,9 @@ where
     }
 }
 
-impl<St: Scripted + SlotStream<S::Waker>, S: NewSource> Subject for MergeUnbounded<St, S>
+impl<St: Made + SlotStream<S::Waker>, S: NewSource> Subject<AllTypes> for MergeUnbounded<St, S>
 where
-    St::Item: Given,
+    St::Item: Item,
 {
     ghost can_poll = { (stream : St) → St.can_poll stream };
 
@@ -57,15 +53,9 @@ where
 
     fn call(&mut self, call: Call<'_>, world: &SharedWorld, text: &mut String) -> Reply {
         match call {
-            Call::Push(_, id) => match new_value(world, id) {
-                Some(value) => of_growth(self.push(value)),
-                None => Reply::Nothing,
-            },
-            Call::Extend(ids) => of_growth(self.extend(new_values(world, ids))),
-            Call::Clear => {
-                self.clear();
-                Reply::Ok
-            }
+            Call::Push(_, id) => of_push(self.push(Made::new(world, id)), Reply::Refused),
+            Call::Extend(ids) => of_push(self.extend(new_values(world, ids)), Reply::Refused),
+            Call::Clear => self.clear().told(),
             Call::Ask(query) => ask!(self, query, text, Len len, IsEmpty is_empty,
                 Capacity capacity, SizeHint size_hint, IsTerminated is_terminated),
             _ => Reply::Nothing,

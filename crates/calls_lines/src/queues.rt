@@ -1,10 +1,12 @@
 //! Ordered queues of futures.
-use crate::answer::{Answer, Given, Reply, Told, ask, of_growth, of_listed, of_next};
-use crate::session::{Session, first_of};
-use crate::subject::{Call, Subject};
+use crate::ask::ask;
+use crate::kinds::AllTypes;
+use calls_world::answer::{Answer, Item, Reply, Told, of_full, of_next, of_push};
 use calls_world::command::End;
-use calls_world::shared_world::SharedWorld;
-use calls_world::values::{NumberFuture, Scripted, new_value, new_values};
+use calls_world::session::{Session, first_of};
+use calls_world::subject::{Call, Subject};
+use calls_world::values::{Made, NumberFuture, new_values};
+use calls_world::world::SharedWorld;
 use futures::Stream;
 use futures::task::Context;
 use futures_buffered::IterExt;
@@ -19,9 +21,10 @@ pub type Queue = FuturesOrderedBounded<NumberFuture, SharedReady>;
 
 pub type GrowingQueue = FuturesOrdered<NumberFuture, SharedReady>;
 
-impl<F: Scripted + SlotFuture<S::Waker>, S: ReadySource> Subject for FuturesOrderedBounded<F, S>
+impl<F: Made + SlotFuture<S::Waker>, S: ReadySource> Subject<AllTypes>
+    for FuturesOrderedBounded<F, S>
 where
-    F::Output: Given,
+    F::Output: Item,
 {
     ghost can_poll = { (future : F) → F.can_poll future };
 
@@ -32,24 +35,19 @@ where
     fn call(&mut self, call: Call<'_>, world: &SharedWorld, text: &mut String) -> Reply {
         match call {
             Call::Push(End::Any, _) => Reply::Nothing,
-            Call::Push(end, id) => match new_value(world, id) {
-                Some(value) => {
-                    let pushed = match end {
-                        End::Front => self.try_push_front(value),
-                        _ => self.try_push_back(value),
-                    };
-                    of_listed(pushed, self.is_full())
-                }
-                None => Reply::Nothing,
-            },
+            Call::Push(end, id) => {
+                let value = Made::new(world, id);
+                let pushed = match end {
+                    End::Front => self.try_push_front(value),
+                    _ => self.try_push_back(value),
+                };
+                of_full(pushed, self.is_full(), Reply::Refused)
+            }
             Call::Extend(ids) => {
                 let extended = self.extend(new_values(world, ids));
-                of_listed(extended, self.is_full())
+                of_full(extended, self.is_full(), Reply::Refused)
             }
-            Call::Clear => {
-                self.clear();
-                Reply::Ok
-            }
+            Call::Clear => self.clear().told(),
             Call::Ask(query) => ask!(self, query, text, Len len, Capacity capacity, Limit limit,
                 IsFull is_full, SizeHint size_hint, IsTerminated is_terminated),
             _ => Reply::Nothing,
@@ -57,9 +55,9 @@ where
     }
 }
 
-impl<F: Scripted + SlotFuture<S::Waker>, S: NewSource> Subject for FuturesOrdered<F, S>
+impl<F: Made + SlotFuture<S::Waker>, S: NewSource> Subject<AllTypes> for FuturesOrdered<F, S>
 where
-    F::Output: Given,
+    F::Output: Item,
 {
     ghost can_poll = { (future : F) → F.can_poll future };
 
@@ -69,19 +67,14 @@ where
 
     fn call(&mut self, call: Call<'_>, world: &SharedWorld, text: &mut String) -> Reply {
         match call {
-            Call::Push(End::Back, id) => match new_value(world, id) {
-                Some(value) => of_growth(self.push_back(value)),
-                None => Reply::Nothing,
-            },
-            Call::Push(End::Front, id) => match new_value(world, id) {
-                Some(value) => of_growth(self.push_front(value)),
-                None => Reply::Nothing,
-            },
-            Call::Extend(ids) => of_growth(self.extend(new_values(world, ids))),
-            Call::Clear => {
-                self.clear();
-                Reply::Ok
+            Call::Push(End::Back, id) => {
+                of_push(self.push_back(Made::new(world, id)), Reply::Refused)
             }
+            Call::Push(End::Front, id) => {
+                of_push(self.push_front(Made::new(world, id)), Reply::Refused)
+            }
+            Call::Extend(ids) => of_push(self.extend(new_values(world, ids)), Reply::Refused),
+            Call::Clear => self.clear().told(),
             Call::Ask(query) => ask!(self, query, text, Len len, Limit limit, SizeHint size_hint,
                 IsTerminated is_terminated),
             _ => Reply::Nothing,

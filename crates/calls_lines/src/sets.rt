@@ -1,10 +1,12 @@
 //! Sets of futures.
-use crate::answer::{Answer, Given, Reply, Told, ask, of_growth, of_next, of_push};
-use crate::session::{Options, Session, first_of};
-use crate::subject::{Call, Subject};
+use crate::ask::ask;
+use crate::kinds::AllTypes;
+use calls_world::answer::{Answer, Item, Reply, Told, of_next, of_push};
 use calls_world::command::End;
-use calls_world::shared_world::SharedWorld;
-use calls_world::values::{NumberFuture, Scripted, new_value, new_values};
+use calls_world::session::{Options, Session, first_of};
+use calls_world::subject::{Call, Subject};
+use calls_world::values::{Made, NumberFuture, new_values};
+use calls_world::world::SharedWorld;
 use futures::Stream;
 use futures::task::Context;
 use futures_buffered::IterExt;
@@ -23,9 +25,10 @@ pub type Set = FuturesUnorderedBounded<NumberFuture, SharedReady>;
 
 pub type GrowingSet = FuturesUnordered<NumberFuture, SharedReady>;
 
-impl<F: Scripted + SlotFuture<S::Waker>, S: ReadySource> Subject for FuturesUnorderedBounded<F, S>
+impl<F: Made + SlotFuture<S::Waker>, S: ReadySource> Subject<AllTypes>
+    for FuturesUnorderedBounded<F, S>
 where
-    F::Output: Given,
+    F::Output: Item,
 {
     ghost can_poll = { (future : F) → F.can_poll future };
 
@@ -35,15 +38,9 @@ where
 
     fn call(&mut self, call: Call<'_>, world: &SharedWorld, text: &mut String) -> Reply {
         match call {
-            Call::Push(End::Any, id) => match new_value(world, id) {
-                Some(value) => of_push(self.try_push(value)),
-                None => Reply::Nothing,
-            },
-            Call::Extend(ids) => of_push(self.extend(new_values(world, ids))),
-            Call::Clear => {
-                self.clear();
-                Reply::Ok
-            }
+            Call::Push(End::Any, id) => of_push(self.try_push(Made::new(world, id)), Reply::Full),
+            Call::Extend(ids) => of_push(self.extend(new_values(world, ids)), Reply::Full),
+            Call::Clear => self.clear().told(),
             Call::Ask(query) => ask!(self, query, text, Len len, Capacity capacity, Limit limit,
                 IsFull is_full, SizeHint size_hint, IsTerminated is_terminated),
             _ => Reply::Nothing,
@@ -88,9 +85,9 @@ pub fn bounded_of(session: &Session, ids: &[usize]) -> Result<Set, NewFault> {
     }
 }
 
-impl<F: Scripted + SlotFuture<S::Waker>, S: NewSource> Subject for FuturesUnordered<F, S>
+impl<F: Made + SlotFuture<S::Waker>, S: NewSource> Subject<AllTypes> for FuturesUnordered<F, S>
 where
-    F::Output: Given,
+    F::Output: Item,
 {
     ghost can_poll = { (future : F) → F.can_poll future };
 
@@ -100,15 +97,9 @@ where
 
     fn call(&mut self, call: Call<'_>, world: &SharedWorld, text: &mut String) -> Reply {
         match call {
-            Call::Push(End::Any, id) => match new_value(world, id) {
-                Some(value) => of_growth(self.push(value)),
-                None => Reply::Nothing,
-            },
-            Call::Extend(ids) => of_growth(self.extend(new_values(world, ids))),
-            Call::Clear => {
-                self.clear();
-                Reply::Ok
-            }
+            Call::Push(End::Any, id) => of_push(self.push(Made::new(world, id)), Reply::Refused),
+            Call::Extend(ids) => of_push(self.extend(new_values(world, ids)), Reply::Refused),
+            Call::Clear => self.clear().told(),
             Call::Ask(query) => ask!(self, query, text, Len len, Capacity capacity, Limit limit,
                 SizeHint size_hint, IsTerminated is_terminated),
             _ => Reply::Nothing,
@@ -144,7 +135,7 @@ fn asks_for_memory(draws: u64) -> bool {
     draws == 0 || (draws > first && slots.is_power_of_two())
 }
 
-// Where memory is refused, no item is drawn behind the one that it was for.
+// If memory is refused, no item is drawn behind the one that it was for.
 fn growing_of_filtered(
     alloc: Global,
     world: &SharedWorld,

@@ -1,6 +1,4 @@
 //! The first word of a line, as what it asks for.
-use crate::numbers::span;
-use crate::world::SOURCE;
 
 /// What a line asks for.
 #[derive(Clone, Copy)]
@@ -23,26 +21,30 @@ pub enum Command {
     Forget,
     Send,
     DropSender,
-    Push(End),
-    Extend,
-    Cancel,
+    Give(Gift),
     Contains,
     Clear,
     Drop,
     Ask(Query),
 }
 
-/// What a line begins. Those whose names end in `Of` are made of the futures that the line names.
+/// What a line begins.
 #[derive(Clone, Copy)]
-pub enum Kind {
+pub struct Kind {
+    pub object: Object,
+    /// It holds futures or streams of the kit.
+    pub is_in_flight: bool,
+    /// It is made of the futures that the line names.
+    pub is_of_values: bool,
+}
+
+/// The types of objects. Each but a for-each comes in flight too.
+#[derive(Clone, Copy)]
+pub enum Object {
     BoundedSet,
     Set,
     BoundedQueue,
     Queue,
-    BoundedSetOf,
-    SetOf,
-    BoundedQueueOf,
-    QueueOf,
     Join,
     TryJoin,
     BoundedMerge,
@@ -53,26 +55,17 @@ pub enum Kind {
     TryBufferedOrdered,
     ForEach,
     TryForEach,
-    InFlight,
-    InFlightOf,
-    InFlightOrdered,
-    InFlightOrderedOf,
-    InFlightSet,
-    InFlightSetOf,
-    InFlightQueue,
-    InFlightQueueOf,
-    InFlightJoin,
-    InFlightTryJoin,
-    InFlightMerge,
-    InFlightBoundedMerge,
-    InFlightBoundedMergeOf,
-    InFlightBufferedUnordered,
-    InFlightBufferedOrdered,
-    InFlightTryBufferedUnordered,
-    InFlightTryBufferedOrdered,
 }
 
-/// Where a future is added: sets and merges have no ends.
+/// A call that is given values.
+#[derive(Clone, Copy)]
+pub enum Gift {
+    Push(End),
+    Extend,
+    Cancel,
+}
+
+/// The end at which a future is added: sets and merges have no ends.
 #[derive(Clone, Copy)]
 pub enum End {
     Any,
@@ -94,76 +87,50 @@ pub enum Query {
     Debug,
 }
 
-fn kind_of(word: &str) -> Option<Kind> {
+fn object_of(word: &str) -> Option<Object> {
     Some(match word {
-        "bounded_set" => Kind::BoundedSet,
-        "set" => Kind::Set,
-        "bounded_queue" => Kind::BoundedQueue,
-        "queue" => Kind::Queue,
-        "join" => Kind::Join,
-        "try_join" => Kind::TryJoin,
-        "bounded_merge" => Kind::BoundedMerge,
-        "merge" => Kind::Merge,
-        "buffered_unordered" => Kind::BufferedUnordered,
-        "buffered_ordered" => Kind::BufferedOrdered,
-        "try_buffered_unordered" => Kind::TryBufferedUnordered,
-        "try_buffered_ordered" => Kind::TryBufferedOrdered,
-        "for_each" => Kind::ForEach,
-        "try_for_each" => Kind::TryForEach,
-        "in_flight" => Kind::InFlight,
-        "in_flight_ordered" => Kind::InFlightOrdered,
-        "in_flight_set" => Kind::InFlightSet,
-        "in_flight_queue" => Kind::InFlightQueue,
-        "in_flight_join" => Kind::InFlightJoin,
-        "in_flight_try_join" => Kind::InFlightTryJoin,
-        "in_flight_merge" => Kind::InFlightMerge,
-        "in_flight_bounded_merge" => Kind::InFlightBoundedMerge,
-        "in_flight_buffered_unordered" => Kind::InFlightBufferedUnordered,
-        "in_flight_buffered_ordered" => Kind::InFlightBufferedOrdered,
-        "in_flight_try_buffered_unordered" => Kind::InFlightTryBufferedUnordered,
-        "in_flight_try_buffered_ordered" => Kind::InFlightTryBufferedOrdered,
+        "bounded_set" => Object::BoundedSet,
+        "set" => Object::Set,
+        "bounded_queue" => Object::BoundedQueue,
+        "queue" => Object::Queue,
+        "join" => Object::Join,
+        "try_join" => Object::TryJoin,
+        "bounded_merge" => Object::BoundedMerge,
+        "merge" => Object::Merge,
+        "buffered_unordered" => Object::BufferedUnordered,
+        "buffered_ordered" => Object::BufferedOrdered,
+        "try_buffered_unordered" => Object::TryBufferedUnordered,
+        "try_buffered_ordered" => Object::TryBufferedOrdered,
+        "for_each" => Object::ForEach,
+        "try_for_each" => Object::TryForEach,
         _ => return None,
     })
 }
 
-/// Whether it holds what is of the kit.
-pub fn is_in_flight(kind: Kind) -> bool {
-    matches!(
-        kind,
-        Kind::InFlight
-            | Kind::InFlightOf
-            | Kind::InFlightOrdered
-            | Kind::InFlightOrderedOf
-            | Kind::InFlightSet
-            | Kind::InFlightSetOf
-            | Kind::InFlightQueue
-            | Kind::InFlightQueueOf
-            | Kind::InFlightJoin
-            | Kind::InFlightTryJoin
-            | Kind::InFlightMerge
-            | Kind::InFlightBoundedMerge
-            | Kind::InFlightBoundedMergeOf
-            | Kind::InFlightBufferedUnordered
-            | Kind::InFlightBufferedOrdered
-            | Kind::InFlightTryBufferedUnordered
-            | Kind::InFlightTryBufferedOrdered,
-    )
+// The object in flight that the rest of a word names. A set and a queue of so many slots have words of their own there.
+fn object_in_flight(rest: &str) -> Option<Object> {
+    match rest {
+        "" => Some(Object::BoundedSet),
+        "_ordered" => Some(Object::BoundedQueue),
+        rest => match object_of(rest.strip_prefix('_')?)? {
+            Object::BoundedSet | Object::BoundedQueue | Object::ForEach | Object::TryForEach =>
+                None,
+            object => Some(object),
+        },
+    }
 }
 
-/// The kind that `of` behind its word makes.
-pub fn kind_of_values(kind: Kind) -> Kind {
-    match kind {
-        Kind::BoundedSet => Kind::BoundedSetOf,
-        Kind::Set => Kind::SetOf,
-        Kind::BoundedQueue => Kind::BoundedQueueOf,
-        Kind::Queue => Kind::QueueOf,
-        Kind::InFlight => Kind::InFlightOf,
-        Kind::InFlightOrdered => Kind::InFlightOrderedOf,
-        Kind::InFlightSet => Kind::InFlightSetOf,
-        Kind::InFlightQueue => Kind::InFlightQueueOf,
-        Kind::InFlightBoundedMerge => Kind::InFlightBoundedMergeOf,
-        other => other,
-    }
+fn kind_of(word: &str) -> Option<Kind> {
+    let in_flight = word.strip_prefix("in_flight");
+    let object = match in_flight {
+        Some(rest) => object_in_flight(rest)?,
+        None => object_of(word)?,
+    };
+    Some(Kind {
+        object,
+        is_in_flight: in_flight.is_some(),
+        is_of_values: false,
+    })
 }
 
 fn query_of(word: &str) -> Option<Query> {
@@ -201,11 +168,11 @@ pub fn command_of(word: &str) -> Option<Command> {
         "forget" => Command::Forget,
         "send" => Command::Send,
         "drop_sender" => Command::DropSender,
-        "push" => Command::Push(End::Any),
-        "push_back" => Command::Push(End::Back),
-        "push_front" => Command::Push(End::Front),
-        "extend" => Command::Extend,
-        "cancel" => Command::Cancel,
+        "push" => Command::Give(Gift::Push(End::Any)),
+        "push_back" => Command::Give(Gift::Push(End::Back)),
+        "push_front" => Command::Give(Gift::Push(End::Front)),
+        "extend" => Command::Give(Gift::Extend),
+        "cancel" => Command::Give(Gift::Cancel),
         "contains" => Command::Contains,
         "clear" => Command::Clear,
         "drop" => Command::Drop,
@@ -214,12 +181,4 @@ pub fn command_of(word: &str) -> Option<Command> {
             None => Command::Ask(query_of(word)?),
         },
     })
-}
-
-/// The numbers of values, or that of the source: the first and the last.
-pub fn ids_of(word: &str) -> Option<(usize, usize)> {
-    if word == "source" {
-        return Some((SOURCE, SOURCE));
-    }
-    span(word)
 }

@@ -1,11 +1,9 @@
 //! How many bytes a call asks for. A program does not see that itself: a library that stands before the C library
-//! counts them, and is
-//! asked by requests of sizes that no memory has.
+//! counts them, and is asked by requests of sizes that no memory has.
 use std::alloc::Global;
 
 // A request of so many bytes begins a count. One of N bytes more asks whether fewer than N were asked for since, and is
-// refused where they
-// were not. Where no such library is there, each is refused.
+// refused if they were not. If no such library is there, each is refused.
 const QUESTION: usize = 70_368_744_177_664;
 
 /// Has what calls ask for counted, if the program is run for that.

@@ -1,5 +1,5 @@
 //! A line of a file of tests, as its parts.
-use crate::command::{Command, Kind, command_of, kind_of_values};
+use crate::command::{Command, Kind, command_of};
 use crate::numbers::number;
 
 /// What a line is.
@@ -81,10 +81,19 @@ pub fn begun_by<'a>(line: &'a str) -> Option<(Kind, &'a str)> {
         Line::Call(call, _) => {
             let (word, rest) = split_call(call);
             match command_of(word)? {
-                Command::Begin(kind) => Some(match split_call(rest) {
-                    ("of", values) => (kind_of_values(kind), values),
-                    _ => (kind, rest),
-                }),
+                Command::Begin(kind) => {
+                    let (is_of_values, words) = match split_call(rest) {
+                        ("of", values) => (true, values),
+                        _ => (false, rest),
+                    };
+                    Some((
+                        Kind {
+                            is_of_values,
+                            ..kind
+                        },
+                        words,
+                    ))
+                }
                 _ => None,
             }
         }

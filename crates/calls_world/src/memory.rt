@@ -6,10 +6,10 @@ use std::rc::Rc;
 const ROOM: usize = 1024;
 
 /// An empty list of what a call does, which asks for no more memory if that is no more than usual.
-pub fn list<T: Drop>(alloc: Global) -> Result<Vec<T>, AllocError> {
+pub fn list<T: Drop>(alloc: Global) -> Vec<T> {
     match Vec::with_capacity(alloc, ROOM) {
-        Ok(list) => Ok(list),
-        Err(_) => Vec::with_capacity(alloc, ROOM),
+        Ok(list) => list,
+        Err(_) => Vec::with_capacity(alloc, ROOM).unwrap_or(Vec::new(alloc)),
     }
 }
 

@@ -71,9 +71,11 @@ impl Report {
         self.test.append(name);
     }
 
-    /// A request for memory that a call made was refused, and the call was made once more.
-    pub fn count_refused(&mut self) {
-        self.refused = self.refused.saturating_add(1);
+    /// Memory was refused to a call, which was made once more.
+    pub fn count_again(&mut self, is_well: bool) {
+        if is_well {
+            self.refused = self.refused.saturating_add(1);
+        }
     }
 
     /// The exit status of the file: 1 if a reply differs, otherwise 3 if memory was refused to a call, otherwise 0.

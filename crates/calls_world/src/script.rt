@@ -1,12 +1,15 @@
 //! A script: what one future, stream or source does, poll by poll.
+ghost use Rattle.std.specs.Prelude.{◌≡◌};
+ghost use Rattle.futures.specs.Task.{IsArmed, Keeps};
+ghost use Rattle.futures.specs.Poll.{OnPending};
+
 use crate::effects::Event;
-use crate::shared_world::SharedWorld;
 use crate::step::{Action, Step, asks_receiver, items_in};
-use futures::task::Poll;
+use crate::world::SharedWorld;
+use futures::task::{Context, Poll, Source};
 use futures_buffered_core::ready_shared::SharedWaker;
 use futures_buffered_held::oneshot::{Canceled, Receiver};
 use futures_buffered_unordered::slot_future::{SlotFuture, SlotWaker};
-use std::alloc::AllocError;
 use std::rc::Rc;
 
 /// What the script is one of, which says when it ends.
@@ -18,23 +21,25 @@ pub enum Role {
     Stream,
 }
 
-/// What one poll does: whether it keeps its waker, whether it wakes it at once, and how it ends.
+// What one poll does: whether it keeps its waker, whether it wakes it at once, and how it ends.
 #[derive(Clone, Copy)]
-pub struct Turn {
-    pub keeps: bool,
-    pub wakes: bool,
-    pub action: Action,
+struct Turn {
+    keeps: bool,
+    wakes: bool,
+    action: Action,
 }
 
 /// The script of one value. Its polls and its drop are seen.
 pub struct Script {
-    pub id: usize,
-    pub role: Role,
+    id: usize,
+    role: Role,
     steps: Option<Rc<Vec<Step>>>,
     // The place of the next step.
     at: usize,
     is_over: bool,
     receiver: Option<Receiver<u64>>,
+    // What it keeps the waker of a task by.
+    source: Source,
     pub world: SharedWorld,
 }
 
@@ -47,14 +52,11 @@ impl Drop for Script {
             at: _,
             is_over: _,
             receiver: _receiver,
+            source: _source,
             world,
         } = self;
         world.see_drop(id);
     }
-}
-
-fn is_pending(action: Action) -> bool {
-    matches!(action, Action::Pending)
 }
 
 fn new_receiver(
@@ -63,30 +65,26 @@ fn new_receiver(
     steps: &Option<Rc<Vec<Step>>>,
 ) -> Option<Receiver<u64>> {
     match steps {
-        Some(steps) if asks_receiver(steps.as_slice()) => { world.new_receiver(id) }
+        Some(steps) if asks_receiver(steps.as_slice()) => world.new_receiver(id),
         _ => None,
     }
 }
 
 impl Script {
     /// The script of the value with this number, from its start.
-    pub fn new(world: &SharedWorld, id: usize) -> Result<Script, AllocError> {
-        let world = world.share()?;
+    pub fn new(world: &SharedWorld, id: usize, role: Role) -> Script {
         let steps = world.make(id);
-        let receiver = new_receiver(&world, id, &steps);
-        Ok(Script {
+        let receiver = new_receiver(world, id, &steps);
+        Script {
             id,
-            role: Role::Future,
+            role,
             steps,
             at: 0,
             is_over: false,
             receiver,
-            world,
-        })
-    }
-
-    fn see(&self, event: Event) {
-        self.world.see(event);
+            source: Source::new(),
+            world: world.share(),
+        }
     }
 
     /// The closure of a for-each was called with the value. The handle is the closure's own.
@@ -97,10 +95,7 @@ impl Script {
     /// How many items and errors are left.
     pub fn items_left(&self) -> usize {
         match &self.steps {
-            Some(steps) => match steps.get(self.at..) {
-                Some(rest) => items_in(rest),
-                None => 0,
-            },
+            Some(steps) => items_in(steps.get(self.at..).unwrap_or(&[])),
             None => 0,
         }
     }
@@ -115,9 +110,9 @@ impl Script {
         };
     }
 
-    fn step_at(&self, at: usize) -> Option<Step> {
+    fn next_step(&self) -> Option<Step> {
         match &self.steps {
-            Some(steps) => steps.get(at).copied(),
+            Some(steps) => steps.get(self.at).copied(),
             None => None,
         }
     }
@@ -125,49 +120,44 @@ impl Script {
     // Goes on to the next step that ends a poll. One that asks the receiver stays the next.
     fn next_action(&mut self) -> (bool, Action) {
         for _ in 0..u64::MAX {
-            let at = self.at;
-            match self.step_at(at) {
+            match self.next_step() {
                 Some(Step::Kick(id)) => {
                     let _ = self.world.wake(id);
                 }
-                Some(
-                    Step::Act {
-                        wakes,
-                        action: Action::Receive,
-                    },
-                ) => return (wakes, Action::Receive),
                 Some(Step::Act { wakes, action }) => {
-                    self.at = at.saturating_add(1);
+                    if !matches!(action, Action::Receive) {
+                        self.at = self.at.saturating_add(1);
+                    }
                     return (wakes, action);
                 }
                 None => return (false, Action::Pending),
             }
-            self.at = at.saturating_add(1);
+            self.at = self.at.saturating_add(1);
         }
         (false, Action::Pending)
     }
 
-    /// Begins a poll: it is seen, others are woken, and what follows is given.
-    pub fn begin_poll(&mut self) -> Turn {
+    // Begins a poll: it is seen, others are woken, and what follows is given.
+    fn begin_poll(&mut self) -> Turn {
         if self.is_over {
-            self.see(Event::PolledAfterEnd(self.id));
+            self.world.see(Event::PolledAfterEnd(self.id));
             return Turn {
                 keeps: false,
                 wakes: false,
                 action: Action::Pending,
             };
         }
-        self.see(Event::Polled(self.id));
+        self.world.see(Event::Polled(self.id));
         let (wakes, action) = self.next_action();
         self.end_by(action);
         Turn {
-            keeps: wakes || is_pending(action),
+            keeps: wakes || matches!(action, Action::Pending),
             wakes,
             action,
         }
     }
 
-    // Asks the receiver. Where its sender is gone, a future gives 0, or fails with 0.
+    // Asks the receiver. If its sender is gone, a future gives 0, or fails with 0.
     fn receive(&mut self, waker: &SharedWaker) -> Action {
         let Some(receiver) = &mut self.receiver else {
             return Action::End;
@@ -185,7 +175,7 @@ impl Script {
     }
 
     /// One poll in a slot.
-    pub fn poll(&mut self, waker: &SharedWaker) -> Action {
+    pub fn poll_in_slot(&mut self, waker: &SharedWaker) -> Action {
         let turn = self.begin_poll();
         if turn.keeps {
             self.world.keep(self.id, waker);
@@ -195,13 +185,55 @@ impl Script {
         }
         match turn.action {
             Action::Receive => self.receive(waker),
+            Action::Slot => Action::Value(waker.slot() as u64),
             action => action,
         }
     }
 
+    // Keeps the waker of the task.
+    fn keep(&self, cx: &mut Context<'_>)
+        ensures armed { IsArmed cx.new }
+        ensures kept { Keeps cx.old cx.new }
+    {
+        let Some(mut guard) = self.world.open() else {
+            let _: Poll<()> = cx.yield_now();
+            return;
+        };
+        let world = &mut *guard;
+        let _: Poll<()> = match world.task_waker(self.id) {
+            Some(waker) => cx.register(&self.source, waker),
+            None => cx.yield_now(),
+        };
+    }
+
+    /// One poll in a task: what the script does, if that is not to be pending.
+    pub fn poll_in_task(&mut self, cx: &mut Context<'_>) -> Poll<Action>
+        ensures armed { OnPending result (IsArmed cx.new) }
+        ensures kept { Keeps cx.old cx.new }
+    {
+        let turn = self.begin_poll();
+        if turn.keeps {
+            self.keep(cx);
+        }
+        if turn.wakes {
+            let _ = self.world.wake(self.id);
+        }
+        match turn.action {
+            Action::Pending => {
+                self.keep(cx);
+                Poll::Pending
+            }
+            action => Poll::Ready(action),
+        }
+    }
+
     /// The script says what its kind of value cannot do.
-    pub fn misuse<T>(&self) -> Poll<T> {
+    pub fn misuse<T>(&self, cx: &mut Context<'_>) -> Poll<T>
+        ensures pending { result ≡ Poll.Pending }
+        ensures armed { IsArmed cx.new }
+        ensures kept { Keeps cx.old cx.new }
+    {
         self.world.misuse();
-        Poll::Pending
+        cx.yield_now()
     }
 }

@@ -12,13 +12,6 @@ pub struct Text {
     pub has_failed: bool,
 }
 
-// Numbers that follow one another, not written yet.
-#[derive(Clone, Copy)]
-struct Run {
-    first: u64,
-    last: u64,
-}
-
 impl Text {
     pub fn new(alloc: Global) -> Text {
         Text {
@@ -50,7 +43,7 @@ impl Text {
         }
     }
 
-    // Appends a space, where a word stands before.
+    // Appends a space if a word stands before.
     fn append_gap(&mut self) {
         let text = self.string.as_str();
         if !text.is_empty() && !text.ends_with(' ') {
@@ -84,21 +77,14 @@ impl Text {
         let Some((first, rest)) = numbers.split_first() else {
             return;
         };
-        let mut run = Run {
-            first: *first,
-            last: *first,
-        };
+        let (mut start, mut last) = (*first, *first);
         for number in rest {
-            if run.last.checked_add(1) == Some(*number) {
-                run.last = *number;
-            } else {
-                self.append_run(run.first, run.last);
-                run = Run {
-                    first: *number,
-                    last: *number,
-                };
+            if last.checked_add(1) != Some(*number) {
+                self.append_run(start, last);
+                start = *number;
             }
+            last = *number;
         }
-        self.append_run(run.first, run.last);
+        self.append_run(start, last);
     }
 }

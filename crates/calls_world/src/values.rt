@@ -1,45 +1,17 @@
 //! The futures and streams that objects hold, each after its script.
+ghost use Rattle.futures.specs.Task.{IsArmed, Keeps};
+ghost use Rattle.futures.specs.Poll.{OnPending};
+
 use crate::memory;
 use crate::script::{Role, Script};
-use crate::shared_world::SharedWorld;
 use crate::step::Action;
-use futures::task::Poll;
+use crate::world::SharedWorld;
+use futures::task::{Context, Poll};
+use futures::{Future, Stream};
 use futures_buffered_core::ready_shared::SharedWaker;
 use futures_buffered_unordered::slot_future::SlotFuture;
 use futures_buffered_unordered::slot_stream::SlotStream;
-
-/// A future or a stream that acts after a script.
-pub trait Scripted: Drop {
-    fn new(script: Script) -> Self;
-}
-
-/// The value with this number, or none if the world has no room for one more handle.
-pub fn new_value<T: Scripted>(world: &SharedWorld, id: usize) -> Option<T> {
-    match Script::new(world, id) {
-        Ok(script) => Some(T::new(script)),
-        Err(_) => None,
-    }
-}
-
-fn push_value<T: Scripted>(values: &mut Vec<T>, world: &SharedWorld, id: usize) {
-    match Script::new(world, id) {
-        Ok(script) => {
-            if !memory::push(values, T::new(script)) {
-                world.run_out_of_memory();
-            }
-        }
-        Err(_) => world.misuse(),
-    }
-}
-
-/// A value for each of these numbers.
-pub fn new_values<T: Scripted>(world: &SharedWorld, ids: &[usize]) -> Vec<T> {
-    let mut values = Vec::new(world.alloc);
-    for id in ids {
-        push_value(&mut values, world, *id);
-    }
-    values
-}
+use std::marker::PhantomData;
 
 /// What a future gives. Its drop is seen if it has a handle on the world.
 pub struct Output {
@@ -57,21 +29,6 @@ impl Drop for Output {
 }
 
 impl Output {
-    pub fn new(number: u64) -> Output {
-        Output {
-            number,
-            world: None,
-        }
-    }
-
-    /// One whose drop is seen.
-    pub fn watched(number: u64, world: &SharedWorld) -> Output {
-        Output {
-            number,
-            world: world.share().ok(),
-        }
-    }
-
     /// The number. Its drop is not seen any more, since the object has handed it out.
     pub fn into_number(self) -> u64 {
         let mut output = self;
@@ -80,144 +37,199 @@ impl Output {
     }
 }
 
-/// A future that gives a number.
-#[derive(Drop)]
-pub struct NumberFuture(Script);
+/// What a value gives as a poll of it ends.
+pub trait Given: Drop {
+    const ROLE: Role;
 
-impl Scripted for NumberFuture {
-    fn new(script: Script) -> NumberFuture {
-        NumberFuture(script)
-    }
+    /// What it gives by this action. `None` if its kind of value has no such action.
+    fn given_by(action: Action, world: &SharedWorld) -> Option<Self>;
 }
 
-impl SlotFuture<SharedWaker> for NumberFuture {
-    type Output = Output;
+impl Given for () {
+    const ROLE: Role = Role::Future;
 
-    fn poll(&mut self, waker: &SharedWaker) -> Poll<Output> {
-        match self.0.poll(waker) {
-            Action::Value(number) => Poll::Ready(Output::new(number)),
-            Action::Output(number) => Poll::Ready(Output::watched(number, &self.0.world)),
-            Action::Slot => Poll::Ready(Output::new(waker.slot() as u64)),
-            Action::Pending => Poll::Pending,
-            Action::Error(_) | Action::Receive | Action::End => self.0.misuse(),
+    fn given_by(action: Action, _world: &SharedWorld) -> Option<()> {
+        match action {
+            Action::Value(_) => Some(()),
+            _ => None,
         }
     }
 }
+
+impl Given for u64 {
+    const ROLE: Role = Role::Future;
+
+    fn given_by(action: Action, _world: &SharedWorld) -> Option<u64> {
+        match action {
+            Action::Value(number) => Some(number),
+            _ => None,
+        }
+    }
+}
+
+impl Given for Output {
+    const ROLE: Role = Role::Future;
+
+    fn given_by(action: Action, world: &SharedWorld) -> Option<Output> {
+        let (number, world) = match action {
+            Action::Value(number) => (number, None),
+            Action::Output(number) => (number, Some(world.share())),
+            _ => return None,
+        };
+        Some(Output { number, world })
+    }
+}
+
+impl<T: Given> Given for Result<T, u64> {
+    const ROLE: Role = Role::TryFuture;
+
+    fn given_by(action: Action, world: &SharedWorld) -> Option<Result<T, u64>> {
+        match action {
+            Action::Error(error) => Some(Err(error)),
+            action => T::given_by(action, world).map(Ok),
+        }
+    }
+}
+
+impl<T: Given> Given for Option<T> {
+    const ROLE: Role = Role::Stream;
+
+    fn given_by(action: Action, world: &SharedWorld) -> Option<Option<T>> {
+        match action {
+            Action::End => Some(None),
+            action => T::given_by(action, world).map(Some),
+        }
+    }
+}
+
+/// A future or a stream that acts after a script, and gives `T` as a poll of it ends.
+#[derive(Drop)]
+pub struct Scripted<T> {
+    script: Script,
+    given: PhantomData<T>,
+}
+
+/// A future that gives a number.
+pub type NumberFuture = Scripted<Output>;
 
 /// A future that gives a number or fails with one.
-#[derive(Drop)]
-pub struct TryFuture(Script);
-
-impl Scripted for TryFuture {
-    fn new(script: Script) -> TryFuture {
-        let mut script = script;
-        script.role = Role::TryFuture;
-        TryFuture(script)
-    }
-}
-
-impl SlotFuture<SharedWaker> for TryFuture {
-    type Output = Result<Output, u64>;
-
-    fn poll(&mut self, waker: &SharedWaker) -> Poll<Result<Output, u64>> {
-        match self.0.poll(waker) {
-            Action::Value(number) => Poll::Ready(Ok(Output::new(number))),
-            Action::Output(number) => Poll::Ready(Ok(Output::watched(number, &self.0.world))),
-            Action::Error(error) => Poll::Ready(Err(error)),
-            Action::Pending => Poll::Pending,
-            Action::Slot | Action::Receive | Action::End => self.0.misuse(),
-        }
-    }
-}
+pub type TryFuture = Scripted<Result<Output, u64>>;
 
 /// A future that gives nothing: an item of a for-each, and what its closure makes of it.
-#[derive(Drop)]
-pub struct UnitFuture(Script);
-
-impl UnitFuture {
-    /// What the closure does with its item: the call is seen.
-    pub fn called(self, world: &SharedWorld) -> UnitFuture {
-        self.0.see_call(world);
-        self
-    }
-}
-
-impl Scripted for UnitFuture {
-    fn new(script: Script) -> UnitFuture {
-        UnitFuture(script)
-    }
-}
-
-impl SlotFuture<SharedWaker> for UnitFuture {
-    type Output = ();
-
-    fn poll(&mut self, waker: &SharedWaker) -> Poll<()> {
-        match self.0.poll(waker) {
-            Action::Value(_) | Action::Slot => Poll::Ready(()),
-            Action::Pending => Poll::Pending,
-            Action::Output(_) | Action::Error(_) | Action::Receive | Action::End => {
-                self.0.misuse()
-            }
-        }
-    }
-}
+pub type UnitFuture = Scripted<()>;
 
 /// A future that gives nothing or fails with a number: an item of a try-for-each, and what its closure makes of it.
-#[derive(Drop)]
-pub struct TryUnitFuture(Script);
+pub type TryUnitFuture = Scripted<Result<(), u64>>;
 
-impl TryUnitFuture {
-    /// What the closure does with its item: the call is seen.
-    pub fn called(self, world: &SharedWorld) -> TryUnitFuture {
-        self.0.see_call(world);
-        self
-    }
+/// A stream of numbers, for a merge.
+pub type NumberStream = Scripted<Option<u64>>;
+
+/// What is made after the script of its number.
+pub trait Made: Drop {
+    /// The value with this number.
+    fn new(world: &SharedWorld, id: usize) -> Self;
 }
 
-impl Scripted for TryUnitFuture {
-    fn new(script: Script) -> TryUnitFuture {
-        let mut script = script;
-        script.role = Role::TryFuture;
-        TryUnitFuture(script)
-    }
-}
-
-impl SlotFuture<SharedWaker> for TryUnitFuture {
-    type Output = Result<(), u64>;
-
-    fn poll(&mut self, waker: &SharedWaker) -> Poll<Result<(), u64>> {
-        match self.0.poll(waker) {
-            Action::Value(_) => Poll::Ready(Ok(())),
-            Action::Error(error) => Poll::Ready(Err(error)),
-            Action::Pending => Poll::Pending,
-            Action::Output(_) | Action::Slot | Action::Receive | Action::End => self.0.misuse(),
+impl<T: Given> Made for Scripted<T> {
+    fn new(world: &SharedWorld, id: usize) -> Scripted<T> {
+        Scripted {
+            script: Script::new(world, id, T::ROLE),
+            given: PhantomData,
         }
     }
 }
 
-/// A stream of numbers, for a merge.
-#[derive(Drop)]
-pub struct NumberStream(Script);
-
-impl Scripted for NumberStream {
-    fn new(script: Script) -> NumberStream {
-        let mut script = script;
-        script.role = Role::Stream;
-        NumberStream(script)
+impl<T: Given> Scripted<T> {
+    /// What the closure of a for-each does with its item: the call is seen.
+    pub fn called(self, world: &SharedWorld) -> Scripted<T> {
+        self.script.see_call(world);
+        self
     }
-}
 
-impl SlotStream<SharedWaker> for NumberStream {
-    type Item = u64;
+    /// How many items and errors are left.
+    pub fn items_left(&self) -> usize {
+        self.script.items_left()
+    }
 
-    fn poll_next(&mut self, waker: &SharedWaker) -> Poll<Option<u64>> {
-        match self.0.poll(waker) {
-            Action::Value(number) => Poll::Ready(Some(number)),
-            Action::End => Poll::Ready(None),
-            Action::Pending => Poll::Pending,
-            Action::Slot | Action::Output(_) | Action::Error(_) | Action::Receive => {
-                self.0.misuse()
+    /// One poll in a slot.
+    pub fn poll_in_slot(&mut self, waker: &SharedWaker) -> Poll<T> {
+        let action = self.script.poll_in_slot(waker);
+        if matches!(action, Action::Pending) {
+            return Poll::Pending;
+        }
+        match T::given_by(action, &self.script.world) {
+            Some(given) => Poll::Ready(given),
+            None => {
+                self.script.world.misuse();
+                Poll::Pending
             }
         }
     }
+
+    /// One poll in a task.
+    pub fn poll_in_task(&mut self, cx: &mut Context<'_>) -> Poll<T>
+        ensures armed { OnPending result (IsArmed cx.new) }
+        ensures kept { Keeps cx.old cx.new }
+    {
+        match self.script.poll_in_task(cx) {
+            Poll::Pending => Poll::Pending,
+            Poll::Ready(action) => match T::given_by(action, &self.script.world) {
+                Some(given) => Poll::Ready(given),
+                None => self.script.misuse(cx),
+            },
+        }
+    }
+}
+
+impl<T: Given> SlotFuture<SharedWaker> for Scripted<T> {
+    type Output = T;
+
+    fn poll(&mut self, waker: &SharedWaker) -> Poll<T> {
+        self.poll_in_slot(waker)
+    }
+}
+
+impl<T: Given> Future for Scripted<T> {
+    type Output = T;
+
+    fn poll(&mut self, cx: &mut Context<'_>) -> Poll<T> {
+        self.poll_in_task(cx)
+    }
+}
+
+impl<T: Given> SlotStream<SharedWaker> for Scripted<Option<T>> {
+    type Item = T;
+
+    fn poll_next(&mut self, waker: &SharedWaker) -> Poll<Option<T>> {
+        self.poll_in_slot(waker)
+    }
+}
+
+impl<T: Given> Stream for Scripted<Option<T>> {
+    type Item = T;
+
+    fn poll_next(&mut self, cx: &mut Context<'_>) -> Poll<Option<T>> {
+        self.poll_in_task(cx)
+    }
+}
+
+// A source gives the values with the numbers of its items.
+impl<T: Given> Given for Scripted<T> {
+    const ROLE: Role = Role::Future;
+
+    fn given_by(action: Action, world: &SharedWorld) -> Option<Scripted<T>> {
+        match action {
+            Action::Value(id) => Some(Scripted::new(world, id as usize)),
+            _ => None,
+        }
+    }
+}
+
+/// A value for each of these numbers.
+pub fn new_values<V: Made>(world: &SharedWorld, ids: &[usize]) -> Vec<V> {
+    let mut values = Vec::new(world.alloc);
+    for id in ids {
+        world.need(memory::push(&mut values, V::new(world, *id)));
+    }
+    values
 }

@@ -1,11 +1,11 @@
 //! A list of events on a ready core, and one of steps on a machine, which is made for them.
 use crate::answer::{Reply, append_reply, fault_word};
+use crate::line::split_call;
+use crate::memory;
+use crate::numbers::number;
+use crate::report::Report;
 use crate::session::Session;
-use calls_world::line::split_call;
-use calls_world::memory;
-use calls_world::numbers::number;
-use calls_world::report::Report;
-use calls_world::text::Text;
+use crate::text::Text;
 use futures_buffered_core::ready_core::{self, Event, NewFault, ReadyCore, RunFault, Taken, Woke};
 use futures_buffered_table::ready_table::{self, Step, StepFault, StepReply};
 use std::alloc::Global;
@@ -72,29 +72,45 @@ fn push_parts<T: Listed>(list: &mut Vec<T>, words: &str) -> bool {
     true
 }
 
-fn append_one(text: &mut Text, reply: StepReply) {
-    match reply {
-        StepReply::More => text.append("more"),
-        StepReply::Woke(Woke::Fresh) => text.append("fresh"),
-        StepReply::Woke(Woke::Already) => text.append("already"),
-        StepReply::Taken(Taken::Slot(slot)) => {
-            text.append("slot ");
-            text.append_number(slot as u64);
+/// A reply of a core or of a machine.
+trait Replied: Copy + Drop + PartialEq {
+    fn append(self, text: &mut Text);
+}
+
+impl Replied for StepReply {
+    fn append(self, text: &mut Text) {
+        match self {
+            StepReply::More => text.append("more"),
+            StepReply::Woke(Woke::Fresh) => text.append("fresh"),
+            StepReply::Woke(Woke::Already) => text.append("already"),
+            StepReply::Taken(Taken::Slot(slot)) => {
+                text.append("slot ");
+                text.append_number(slot as u64);
+            }
+            StepReply::Taken(Taken::Empty) => text.append("empty"),
+            StepReply::Taken(Taken::Pause) => text.append("pause"),
         }
-        StepReply::Taken(Taken::Empty) => text.append("empty"),
-        StepReply::Taken(Taken::Pause) => text.append("pause"),
+    }
+}
+
+impl Replied for ready_core::Reply {
+    fn append(self, text: &mut Text) {
+        match self {
+            ready_core::Reply::Woke(woke) => StepReply::Woke(woke).append(text),
+            ready_core::Reply::Taken(taken) => StepReply::Taken(taken).append(text),
+        }
     }
 }
 
 // One that comes three times or more in a row stands once, with how often.
-fn append_times(text: &mut Text, reply: StepReply, times: u64) {
+fn append_times<T: Replied>(text: &mut Text, reply: T, times: u64) {
     if !text.string.is_empty() {
         text.append(", ");
     }
-    append_one(text, reply);
+    reply.append(text);
     if times == 2 {
         text.append(", ");
-        append_one(text, reply);
+        reply.append(text);
     } else if times > 2 {
         text.append("*");
         text.append_number(times);
@@ -102,7 +118,7 @@ fn append_times(text: &mut Text, reply: StepReply, times: u64) {
 }
 
 // Appends the replies in order.
-fn append_replies(text: &mut Text, replies: &[StepReply]) {
+fn append_replies<T: Replied>(text: &mut Text, replies: &[T]) {
     let Some((first, rest)) = replies.split_first() else {
         return text.append("-");
     };
@@ -120,38 +136,18 @@ fn append_replies(text: &mut Text, replies: &[StepReply]) {
     append_times(text, last, times);
 }
 
-// The reply of a core, as a machine would give it.
-fn as_of_step(reply: ready_core::Reply) -> StepReply {
-    match reply {
-        ready_core::Reply::Woke(woke) => StepReply::Woke(woke),
-        ready_core::Reply::Taken(taken) => StepReply::Taken(taken),
-    }
-}
-
-// Whether there was memory for each.
-fn push_each(list: &mut Vec<StepReply>, replies: &[ready_core::Reply]) -> bool {
-    for reply in replies {
-        if !memory::push(list, as_of_step(*reply)) {
-            return false;
-        }
-    }
-    true
-}
-
-// Where memory is refused, the core is asked for once more.
+// If memory is refused, the core is asked for once more.
 fn new_core(alloc: Global, slots: usize, report: &mut Report) -> Result<ReadyCore, NewFault> {
     match ReadyCore::new(alloc, slots) {
         Err(NewFault::Memory) => {}
         made => return made,
     }
     let made = ReadyCore::new(alloc, slots);
-    if made.is_ok() {
-        report.count_refused();
-    }
+    report.count_again(made.is_ok());
     made
 }
 
-// Where memory is refused, and there is no reply, the run is made once more.
+// If memory is refused, and there is no reply, the run is made once more.
 fn run(
     core: &mut ReadyCore,
     events: &[Event],
@@ -163,9 +159,7 @@ fn run(
         done => return done,
     }
     let done = ready_core::run(core, events, replies);
-    if done.is_ok() {
-        report.count_refused();
-    }
+    report.count_again(done.is_ok());
     done
 }
 
@@ -180,9 +174,7 @@ fn make_steps(
         made => return made,
     }
     let made = ready_table::steps(alloc, slots, steps);
-    if made.is_ok() {
-        report.count_refused();
-    }
+    report.count_again(made.is_ok());
     made
 }
 
@@ -201,13 +193,6 @@ impl Session {
         }
     }
 
-    fn append_run(&mut self, replies: &[ready_core::Reply]) {
-        let mut list = Vec::new(self.world.alloc);
-        if push_each(&mut list, replies) {
-            append_replies(&mut self.reply, list.as_slice());
-        }
-    }
-
     // The place of what was refused stands behind the word.
     fn append_refused(&mut self, word: &str, place: usize) {
         self.reply.append(word);
@@ -220,7 +205,7 @@ impl Session {
         };
         let mut replies = Vec::new(self.world.alloc);
         match run(core, events, &mut replies, &mut self.report) {
-            Ok(()) => self.append_run(replies.as_slice()),
+            Ok(()) => append_replies(&mut self.reply, replies.as_slice()),
             Err(_) if !replies.is_empty() => append_reply(&mut self.reply, Reply::Changed),
             Err(RunFault::Event(place)) => self.append_refused("wrong ", place),
             Err(RunFault::Memory) => self.reply.append(fault_word(NewFault::Memory)),

@@ -1,8 +1,10 @@
-//! The object under test: one implementation for each type of the library.
+//! The object under test.
 use crate::answer::{Answer, Reply};
-use calls_world::command::{End, Query};
-use calls_world::shared_world::SharedWorld;
+use crate::command::{End, Kind, Query};
+use crate::session::Session;
+use crate::world::SharedWorld;
 use futures::task::Context;
+use futures_buffered_core::ready_core::NewFault;
 
 /// A call that is no poll.
 #[derive(Clone, Copy)]
@@ -20,8 +22,9 @@ pub enum Call<'a> {
     Ask(Query),
 }
 
-/// An object under test.
-pub trait Subject: Drop {
+/// An object under test. The crate that implements it names itself by the type `L`, since the objects are of crates
+/// below.
+pub trait Subject<L>: Drop {
     /// What a poll requires.
     ghost can_poll: { Type 0 } = { Unit {0} };
 
@@ -37,7 +40,7 @@ pub trait Subject: Drop {
 #[derive(Clone, Copy)]
 pub struct Nothing;
 
-impl Subject for Nothing {
+impl Subject<()> for Nothing {
     fn poll(&mut self, _cx: &mut Context<'_>, _outputs: &mut Vec<u64>) -> Answer {
         Answer::Nothing
     }
@@ -45,4 +48,21 @@ impl Subject for Nothing {
     fn call(&mut self, _call: Call<'_>, _world: &SharedWorld, _text: &mut String) -> Reply {
         Reply::Nothing
     }
+}
+
+/// An object that a line begins.
+#[derive(Clone, Copy)]
+pub struct Begun<'a> {
+    pub kind: Kind,
+    /// The numbers of the line.
+    pub numbers: &'a [usize],
+    /// The line, and all those behind it.
+    pub lines: &'a [&'a str],
+}
+
+/// The objects that lines begin.
+pub trait Library {
+    /// Begins an object, and makes the calls of its lines. How many lines that took, 0 if the numbers name no such
+    /// object.
+    fn run_kind(session: &mut Session, begun: Begun<'_>) -> Result<usize, NewFault>;
 }

@@ -1,13 +1,13 @@
 //! A session: what holds while the lines of a file are gone through.
-use calls_world::command::{Kind, is_in_flight};
-use calls_world::counter::Counter;
-use calls_world::line::{Line, Wanted, most_of, parse};
-use calls_world::memory;
-use calls_world::numbers::number;
-use calls_world::report::Report;
-use calls_world::shared_world::SharedWorld;
-use calls_world::source::FixedHint;
-use calls_world::text::Text;
+use crate::counter::Counter;
+use crate::line::{Line, Wanted, parse};
+use crate::memory;
+use crate::numbers::number;
+use crate::report::Report;
+use crate::source::{Hint, ItemSource};
+use crate::text::Text;
+use crate::values::Given;
+use crate::world::SharedWorld;
 use futures::test::MockTask;
 use futures_buffered_core::ready_core::ReadyCore;
 use std::alloc::{AllocError, AllocGlobal, Global};
@@ -22,7 +22,7 @@ const TASKS: usize = 4;
 pub struct Options {
     pub alloc: Global,
     pub limit: Option<usize>,
-    pub hint: Option<FixedHint>,
+    pub hint: Option<Hint>,
     /// It is made of what a filter lets through, so that its length is not known before.
     pub is_filtered: bool,
     /// It is made by the constructor that takes a source, or what sources are made by.
@@ -67,31 +67,35 @@ pub struct Session {
     pub after: Text,
 }
 
-// A task, asked for once more where memory is refused.
-fn new_task<R: RandomSource + AllocGlobal>(rt: &R) -> io::Result<MockTask> {
-    match MockTask::new(rt) {
-        Ok(task) => Ok(task),
-        Err(_) => MockTask::new(rt),
+// Adds a task, which is asked for once more if memory is refused.
+fn push_task<R: RandomSource + AllocGlobal>(rt: &R, tasks: &mut Vec<MockTask>) -> io::Result<()> {
+    let task = match MockTask::new(rt) {
+        Ok(task) => task,
+        Err(_) => MockTask::new(rt)?,
+    };
+    if memory::push(tasks, task) {
+        Ok(())
+    } else {
+        Err(io::Error::from(AllocError))
     }
 }
 
-fn new_tasks<R: RandomSource + AllocGlobal>(rt: &R) -> io::Result<Vec<MockTask>> {
-    let mut tasks = Vec::new(rt.alloc());
+fn push_tasks<R: RandomSource + AllocGlobal>(rt: &R, tasks: &mut Vec<MockTask>) -> io::Result<()> {
     for _ in 0..TASKS {
-        if !memory::push(&mut tasks, new_task(rt)?) {
-            return Err(io::Error::from(AllocError));
-        }
+        push_task(rt, tasks)?;
     }
-    Ok(tasks)
+    Ok(())
 }
 
-/// A session in which nothing was said yet. Where `is_counted`, what calls ask for is counted.
+/// A session in which nothing was said yet. If `is_counted`, what calls ask for is counted.
 pub fn new_session<R: RandomSource + AllocGlobal>(rt: &R, is_counted: bool) -> io::Result<Session> {
     let alloc = rt.alloc();
+    let mut tasks = Vec::new(alloc);
+    push_tasks(rt, &mut tasks)?;
     Ok(Session {
-        tasks: new_tasks(rt)?,
+        tasks,
         task: 0,
-        world: SharedWorld::new(alloc)?,
+        world: SharedWorld::new(alloc),
         options: no_options(alloc),
         core: None,
         counter: Counter::new(alloc, is_counted),
@@ -99,8 +103,8 @@ pub fn new_session<R: RandomSource + AllocGlobal>(rt: &R, is_counted: bool) -> i
         had_object: false,
         reply: Text::new(alloc),
         ids: Vec::new(alloc),
-        outputs: memory::list(alloc)?,
-        drained: memory::list(alloc)?,
+        outputs: memory::list(alloc),
+        drained: memory::list(alloc),
         before: Text::new(alloc),
         after: Text::new(alloc),
     })
@@ -138,6 +142,11 @@ impl Session {
         self.options = no_options(self.options.alloc);
     }
 
+    /// The source that lines chose.
+    pub fn source<T: Given>(&self) -> ItemSource<T> {
+        ItemSource::new(&self.world, self.options.hint)
+    }
+
     /// Whether that task was woken since it was entered last.
     pub fn woken_word(&self, task: usize) -> &'static str {
         match self.tasks.get(task) {
@@ -148,10 +157,11 @@ impl Session {
 
     /// Compares the reply with what was wanted.
     pub fn compare(&mut self, call: &str, wanted: &Wanted<'_>) {
-        if self.world.is_misused() {
+        let (is_misused, is_out_of_memory) = self.world.faults();
+        if is_misused {
             self.reply.append(" (a value did what its kind does not)");
         }
-        if self.reply.has_failed || self.world.is_out_of_memory() {
+        if self.reply.has_failed || is_out_of_memory {
             self.reply.append(" (out of memory)");
         }
         if self.counter.is_exceeded {
@@ -172,31 +182,5 @@ impl Session {
             }
             _ => {}
         }
-    }
-
-    /// An object is to be begun. The one before is gone.
-    pub fn prepare_object(&mut self) {
-        self.had_object = false;
-        self.world.forget_effects();
-    }
-
-    /// An object of this kind is begun. A future of the kit waits for memory, and asks for it in a poll.
-    pub fn count_of(&mut self, kind: Kind, line: &str) {
-        self.counter.begin_line(most_of(line));
-        self.counter.of_polls = if is_in_flight(kind) { None } else { Some(0) };
-    }
-
-    /// The line has begun an object.
-    pub fn begin_object(&mut self, line: &str) {
-        self.counter.end();
-        self.options = no_options(self.options.alloc);
-        self.had_object = true;
-        self.reply_word(line, "ok");
-    }
-
-    /// Memory was refused to the constructor. Whether no value is left of those that it was given.
-    pub fn refuse_object(&mut self) -> bool {
-        self.world.forget_effects();
-        self.world.is_empty()
     }
 }

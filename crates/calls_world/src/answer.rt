@@ -1,7 +1,7 @@
 //! What a poll of an object answers, what other calls reply, and how that is written.
-use calls_world::memory;
-use calls_world::text::Text;
-use calls_world::values::Output;
+use crate::memory;
+use crate::text::Text;
+use crate::values::Output;
 use futures::task::Poll;
 use futures_buffered_core::ready_core::NewFault;
 use std::alloc::AllocError;
@@ -42,25 +42,25 @@ pub enum Reply {
 }
 
 /// What a poll of a set, a queue, a merge or a buffer gives.
-pub trait Given: Drop {
+pub trait Item: Drop {
     /// The answer with it.
-    fn given(self) -> Answer;
+    fn answer(self) -> Answer;
 }
 
-impl Given for u64 {
-    fn given(self) -> Answer {
+impl Item for u64 {
+    fn answer(self) -> Answer {
         Answer::Some(self)
     }
 }
 
-impl Given for Output {
-    fn given(self) -> Answer {
+impl Item for Output {
+    fn answer(self) -> Answer {
         Answer::Some(self.into_number())
     }
 }
 
-impl Given for Result<Output, u64> {
-    fn given(self) -> Answer {
+impl Item for Result<Output, u64> {
+    fn answer(self) -> Answer {
         match self {
             Ok(output) => Answer::SomeOk(output.into_number()),
             Err(error) => Answer::SomeError(error),
@@ -69,11 +69,11 @@ impl Given for Result<Output, u64> {
 }
 
 /// The answer of what gives one after another.
-pub fn of_next<T: Given>(polled: Poll<Option<T>>) -> Answer {
+pub fn of_next<T: Item>(polled: Poll<Option<T>>) -> Answer {
     match polled {
         Poll::Pending => Answer::Pending,
         Poll::Ready(None) => Answer::None,
-        Poll::Ready(Some(given)) => given.given(),
+        Poll::Ready(Some(item)) => item.answer(),
     }
 }
 
@@ -128,45 +128,17 @@ pub fn of_try_end(polled: Poll<Result<(), u64>>) -> Answer {
     }
 }
 
-/// The reply of an object of so many slots, which refuses if it is full.
-pub fn of_push<T: Drop>(pushed: Result<(), T>) -> Reply {
+/// The reply of an object that takes values, and what it replies as it refuses one.
+pub fn of_push<T: Drop>(pushed: Result<(), T>, refused: Reply) -> Reply {
     match pushed {
         Ok(()) => Reply::Ok,
-        Err(_) => Reply::Full,
+        Err(_) => refused,
     }
 }
 
-/// The reply of an object that grows, which refuses if there is no memory.
-pub fn of_growth<T: Drop>(pushed: Result<(), T>) -> Reply {
-    match pushed {
-        Ok(()) => Reply::Ok,
-        Err(_) => Reply::Refused,
-    }
-}
-
-/// The reply of an object of so many slots whose list of entries grows. It refuses if it is full, and if there is no
-/// memory for the list.
-pub fn of_listed<T: Drop>(pushed: Result<(), T>, is_full: bool) -> Reply {
-    match of_push(pushed) {
-        Reply::Full if !is_full => Reply::Refused,
-        reply => reply,
-    }
-}
-
-/// The reply of an object that refuses exactly if it is full, and never for memory.
-pub fn of_full<T: Drop>(pushed: Result<(), T>, is_full: bool) -> Reply {
-    match of_push(pushed) {
-        Reply::Full if !is_full => Reply::Nothing,
-        reply => reply,
-    }
-}
-
-/// The reply of an object that grows: it is refused memory, and only if it had no room.
-pub fn of_growing<T: Drop>(pushed: Result<(), T>, was_full: bool) -> Reply {
-    match of_growth(pushed) {
-        Reply::Refused if !was_full => Reply::Nothing,
-        reply => reply,
-    }
+/// The reply of an object of so many slots: that it is full, if so, and else what it replies as it refuses a value.
+pub fn of_full<T: Drop>(pushed: Result<(), T>, is_full: bool, refused: Reply) -> Reply {
+    of_push(pushed, if is_full { Reply::Full } else { refused })
 }
 
 /// What `Debug` printed stands in the text, unless memory was refused.
@@ -177,10 +149,16 @@ pub fn of_debug(written: Result<(), AllocError>) -> Reply {
     }
 }
 
-/// What a query returns.
+/// What a call returns.
 pub trait Told {
     /// The reply with it.
     fn told(self) -> Reply;
+}
+
+impl Told for () {
+    fn told(self) -> Reply {
+        Reply::Ok
+    }
 }
 
 impl Told for usize {
@@ -202,24 +180,9 @@ impl Told for (usize, Option<usize>) {
     }
 }
 
-/// The reply to a query: each that the object has, with its method, and what `Debug` prints.
-macro_rules! ask {
-    ($object:expr, $query:expr, $text:expr $(, $name:ident $method:ident)*) => {
-        match $query {
-            $(calls_world::command::Query::$name => $object.$method().told(),)*
-            calls_world::command::Query::Debug => {
-                $crate::answer::of_debug(write!($text, "{:?}", $object))
-            }
-            _ => $crate::answer::Reply::Nothing,
-        }
-    };
-}
-
-pub(crate) use ask;
-
-// Its word, and the number behind it.
-fn parts_of(answer: Answer) -> (&'static str, Option<u64>) {
-    match answer {
+/// Appends the answer, and the outputs beside it.
+pub fn append_answer(text: &mut Text, answer: Answer, outputs: &[u64]) {
+    let (word, number) = match answer {
         Answer::Nothing => ("bad", None),
         Answer::Pending => ("pending", None),
         Answer::None => ("none", None),
@@ -229,12 +192,7 @@ fn parts_of(answer: Answer) -> (&'static str, Option<u64>) {
         Answer::Ready => ("ready", None),
         Answer::ReadyOk => ("ready ok", None),
         Answer::ReadyError(error) => ("ready err", Some(error)),
-    }
-}
-
-/// Appends the answer, and the outputs beside it.
-pub fn append_answer(text: &mut Text, answer: Answer, outputs: &[u64]) {
-    let (word, number) = parts_of(answer);
+    };
     text.append(word);
     if let Some(number) = number {
         text.append(" ");

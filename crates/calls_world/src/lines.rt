@@ -2,12 +2,11 @@
 ghost use Rattle.std.specs.Prelude.{◌<◌};
 
 use crate::answer::fault_word;
-use crate::kinds::run_kind;
-use crate::session::Session;
-use crate::subject::{Nothing, Subject};
-use calls_world::command::{Command, Kind, command_of};
-use calls_world::line::{Line, begun_by, ends_object, parse, split_call};
-use calls_world::numbers::push_numbers;
+use crate::command::{Command, Kind, command_of};
+use crate::line::{Line, begun_by, ends_object, most_of, parse, split_call};
+use crate::numbers::push_numbers;
+use crate::session::{Session, no_options};
+use crate::subject::{Begun, Library, Nothing, Subject};
 use futures_buffered_core::ready_core::NewFault;
 
 // How many bytes it may ask for that a line says, besides those of the next object.
@@ -37,15 +36,13 @@ impl Session {
         self.reply.append(word);
     }
 
-    fn obey<O: Subject>(&mut self, object: &mut O, command: Command, rest: &str)
+    fn obey<L, O: Subject<L>>(&mut self, object: &mut O, command: Command, rest: &str)
         requires { O.can_poll }
     {
         match command {
             Command::Poll => self.poll(object, rest),
             Command::Drain => self.drain(object, rest),
-            Command::Push(end) => self.push(object, end, rest),
-            Command::Extend => self.extend(object, rest),
-            Command::Cancel => self.cancel(object, rest),
+            Command::Give(gift) => self.give(object, gift, rest),
             Command::Contains => self.contains(object, rest),
             Command::Clear => self.clear(object),
             Command::Ask(query) => self.query(object, query),
@@ -57,7 +54,7 @@ impl Session {
         }
     }
 
-    fn call<O: Subject>(&mut self, object: &mut O, call: &str)
+    fn call<L, O: Subject<L>>(&mut self, object: &mut O, call: &str)
         requires { O.can_poll }
     {
         let (word, rest) = split_call(call);
@@ -67,7 +64,7 @@ impl Session {
         }
     }
 
-    fn line<O: Subject>(&mut self, object: &mut O, line: &str)
+    fn line<L, O: Subject<L>>(&mut self, object: &mut O, line: &str)
         requires { O.can_poll }
     {
         self.report.begin_line(line);
@@ -83,7 +80,7 @@ impl Session {
     }
 
     // The lines of an object behind the one that begins it. How many there are.
-    fn object_lines<O: Subject>(&mut self, object: &mut O, lines: &[&str]) -> usize
+    fn object_lines<L, O: Subject<L>>(&mut self, object: &mut O, lines: &[&str]) -> usize
         requires { O.can_poll }
     {
         let mut done = 0usize;
@@ -97,13 +94,17 @@ impl Session {
         done
     }
 
-    fn run_object<O: Subject>(&mut self, object: &mut O, lines: &[&str]) -> usize
+    // The line has begun the object.
+    fn run_object<L, O: Subject<L>>(&mut self, object: &mut O, lines: &[&str]) -> usize
         requires { O.can_poll }
     {
         let Some((first, rest)) = lines.split_first() else {
             return 0;
         };
-        self.begin_object(first);
+        self.counter.end();
+        self.options = no_options(self.options.alloc);
+        self.had_object = true;
+        self.reply_word(first, "ok");
         let done = self.object_lines(object, rest);
         self.world.forget_effects();
         done.saturating_add(1)
@@ -112,95 +113,90 @@ impl Session {
 
 /// Makes the calls of the object that the first of these lines begins, up to its end, and drops it. How many lines that
 /// took.
-pub fn run_made<O: Subject>(
+pub fn run_made<L, O: Subject<L>>(
     session: &mut Session,
     made: Result<O, NewFault>,
-    lines: &[&str],
+    begun: Begun<'_>,
 ) -> Result<usize, NewFault>
     requires { O.can_poll }
 {
     let mut object = made?;
-    Ok(session.run_object(&mut object, lines))
+    Ok(session.run_object(&mut object, begun.lines))
 }
 
 /// The same of an object that is made of the numbers of the first line.
-pub fn run<O: Subject, F: FnOnce(&Session, &[usize]) -> Result<O, NewFault>>(
+pub fn run<L, O: Subject<L>, F: FnOnce(&Session, &[usize]) -> Result<O, NewFault>>(
     session: &mut Session,
     make: F,
-    numbers: &[usize],
-    lines: &[&str],
+    begun: Begun<'_>,
 ) -> Result<usize, NewFault>
     requires polls { O.can_poll }
     requires makes { F.IsAlwaysCallable make }
 {
-    let made = make(session, numbers);
-    run_made(session, made, lines)
+    let made = make(session, begun.numbers);
+    run_made(session, made, begun)
 }
 
 /// The same of an object with room for as many as the line says. 0 if that is none.
-pub fn run_with_room<O: Subject, F: FnOnce(&Session, usize) -> Result<O, NewFault>>(
+pub fn run_with_room<L, O: Subject<L>, F: FnOnce(&Session, usize) -> Result<O, NewFault>>(
     session: &mut Session,
     make: F,
-    numbers: &[usize],
-    lines: &[&str],
+    begun: Begun<'_>,
 ) -> Result<usize, NewFault>
     requires polls { O.can_poll }
     requires makes { (session : _) (n : _) → 0 < n → F.pre make session n }
 {
-    match numbers.first() {
+    match begun.numbers.first() {
         Some(n) if *n > 0 => {
             let made = make(session, *n);
-            run_made(session, made, lines)
+            run_made(session, made, begun)
         }
         _ => Ok(0),
     }
 }
 
-// How many lines were done with the object, 0 where a word is no number.
-fn run_words(
-    session: &mut Session,
-    kind: Kind,
-    words: &str,
-    lines: &[&str],
-) -> Result<usize, NewFault> {
-    let mut numbers = Vec::new(session.options.alloc);
-    if push_numbers(&mut numbers, words) {
-        session.counter.begin(None);
-        run_kind(session, kind, numbers.as_slice(), lines)
-    } else {
-        Ok(0)
-    }
-}
-
-// Where memory is refused, the object is asked for once more. One that is refused for good is no more than a reply.
-fn run_twice(
-    session: &mut Session,
-    kind: Kind,
-    words: &str,
-    lines: &[&str],
-) -> Result<usize, NewFault> {
-    match run_words(session, kind, words, lines) {
+// If memory is refused, and no value is left of those that the constructor was given, the object is asked for once
+// more. One that is refused for good is no more than a reply.
+fn run_twice<L: Library>(session: &mut Session, begun: Begun<'_>) -> Result<usize, NewFault> {
+    session.counter.begin(None);
+    match L::run_kind(session, begun) {
         Err(NewFault::Memory) => {}
         done => return done,
     }
-    if !session.refuse_object() {
+    session.world.forget_effects();
+    if !session.world.is_empty() {
         return Err(NewFault::Memory);
     }
-    let done = run_words(session, kind, words, lines);
-    if done.is_ok() {
-        session.report.count_refused();
-    }
+    session.counter.begin(None);
+    let done = L::run_kind(session, begun);
+    session.report.count_again(done.is_ok());
     done
 }
 
-fn begin(session: &mut Session, kind: Kind, words: &str, line: &str, lines: &[&str]) -> usize {
-    session.prepare_object();
-    if session.report.test_is_over {
-        session.reply_word(line, "bad");
-        return 1;
+// The object before is gone. A future of the kit waits for memory, and asks for it in a poll.
+fn begin<L: Library>(
+    session: &mut Session,
+    kind: Kind,
+    words: &str,
+    line: &str,
+    lines: &[&str],
+) -> usize {
+    let mut numbers = Vec::new(session.options.alloc);
+    session.had_object = false;
+    session.world.forget_effects();
+    session.counter.begin_line(most_of(line));
+    session.counter.of_polls = if kind.is_in_flight { None } else { Some(0) };
+    let mut done = Ok(0);
+    if !session.report.test_is_over && push_numbers(&mut numbers, words) {
+        let numbers = numbers.as_slice();
+        let begun = Begun {
+            kind,
+            numbers,
+            lines,
+        };
+        done = run_twice::<L>(session, begun);
     }
-    session.count_of(kind, line);
-    let word = match run_twice(session, kind, words, lines) {
+    let word = match done {
         Ok(0) => "bad",
         Ok(done) => return done,
         Err(fault) => fault_word(fault),
@@ -232,21 +228,17 @@ fn run_bare(session: &mut Session, lines: &[&str]) -> usize {
     done
 }
 
-fn run_some(session: &mut Session, line: &str, lines: &[&str]) -> usize {
-    match begun_by(line) {
-        Some((kind, words)) => begin(session, kind, words, line, lines),
-        None => run_bare(session, lines),
-    }
-}
-
 /// Makes the calls of all lines.
-pub fn run_lines(session: &mut Session, lines: &[&str]) {
-    let mut at = 0usize;
+pub fn run_lines<L: Library>(session: &mut Session, lines: &[&str]) {
+    let mut rest = lines;
     for _ in 0..lines.len() {
-        if let Some(rest) = lines.get(at..) {
-            if let Some(line) = rest.first() {
-                at = at.saturating_add(run_some(session, line, rest));
-            }
-        }
+        let Some(line) = rest.first() else {
+            return;
+        };
+        let done = match begun_by(line) {
+            Some((kind, words)) => begin::<L>(session, kind, words, line, rest),
+            None => run_bare(session, rest),
+        };
+        rest = rest.get(done..).unwrap_or(&[]);
     }
 }
