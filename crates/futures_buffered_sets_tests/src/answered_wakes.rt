@@ -1,5 +1,4 @@
 // Each wake is answered before its thread makes the next, so that none can stand in for one that was lost.
-use crate::same::assert_same;
 use futures::task::Poll;
 use futures::test::MockTask;
 use futures_buffered_core::ready_shared::{SharedReady, SharedWaker};
@@ -13,6 +12,7 @@ use std::thread::{self, Threads, yield_now};
 use std::time::{Clock, Instant};
 use test_support::polling::poll_next;
 use test_support::run_on::run_on;
+use test_support::same::assert_same;
 
 // How long the thread asks.
 const MILLISECONDS: u128 = 3_000;
@@ -150,18 +150,6 @@ fn answer_all<C: Clock>(
     true
 }
 
-fn answer_in_time<C: Clock>(
-    clock: &C,
-    start: &Instant,
-    task: &MockTask,
-    set: &mut Set<'_>,
-    seat: &Seat,
-) -> bool {
-    let answered = answer_all(clock, start, task, set, seat);
-    seat.stops.store(1, SeqCst);
-    answered
-}
-
 // Polls once, and answers while a thread wakes.
 fn answer_beside<R: Threads + Clock + Sync>(
     rt: &R,
@@ -175,7 +163,11 @@ fn answer_beside<R: Threads + Clock + Sync>(
     let ((), answered) = thread::join(
         rt,
         || ask_all(seat, waker),
-        || answer_in_time(rt, start, task, set, seat),
+        || {
+            let answered = answer_all(rt, start, task, set, seat);
+            seat.stops.store(1, SeqCst);
+            answered
+        },
     );
     answered
 }

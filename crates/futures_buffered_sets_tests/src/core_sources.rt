@@ -1,23 +1,17 @@
-// Sets and queues over `CoreSource`, and one set beside another: each constructor that takes a source, at more slots
-// than two bytes can count.
-use crate::same::assert_same;
-use futures::test::MockTask;
-use futures_buffered_core::ready_core::{NewFault, Woke};
+// Sets and queues over `CoreSource`, and one set beside another: each constructor that takes a source, at 70,000 slots,
+// which are more than two bytes can count.
+use futures_buffered_core::ready_core::NewFault;
 use futures_buffered_core::ready_shared::SharedReady;
-use futures_buffered_core::ready_source::{CoreSource, NewSource, ReadySource};
+use futures_buffered_core::ready_source::{CoreSource, NewSource};
 use futures_buffered_sets::{
     FuturesOrdered, FuturesOrderedBounded, FuturesUnordered, FuturesUnorderedBounded,
 };
-use std::alloc::{AllocGlobal, Global};
-use std::process::Abort;
-use std::random::RandomSource;
+use std::alloc::Global;
 use std::test::Fail;
-use test_support::holds::{Holds, HoldsInOrder, add_each, is_emptied};
-use test_support::timed::{Timed, ready, ready_up_to};
+use test_support::stage::plays_alone;
+use test_support::timed::{Timed, ready_up_to};
 
 const SLOTS: usize = 70_000;
-
-const NUMBERS: u64 = SLOTS as u64;
 
 type Bounded = FuturesUnorderedBounded<Timed, CoreSource>;
 
@@ -29,63 +23,13 @@ type BoundedQueue = FuturesOrderedBounded<Timed, CoreSource>;
 
 type GrowingQueue = FuturesOrdered<Timed, CoreSource>;
 
-// Marks each slot: how many were not marked.
-fn fresh_marks<S: ReadySource>(set: &mut FuturesUnorderedBounded<Timed, S>) -> usize {
-    let mut fresh = 0usize;
-    for slot in 0..SLOTS {
-        if slot < set.capacity() && set.mark_slot(slot) == Woke::Fresh {
-            fresh = fresh.saturating_add(1);
-        }
-    }
-    fresh
-}
-
-// All numbers are added in order, and given.
-fn fill<H: Holds>(rt: &impl Abort, task: &MockTask, held: &mut H)
-    requires { (held : H) → H.can_poll held }
-{
-    assert_same(rt, add_each(held, NUMBERS), NUMBERS);
-    assert_same(rt, held.count(), SLOTS);
-    assert_same(rt, is_emptied(task, held, NUMBERS), true);
-}
-
 // No slot is marked before it is filled. Each takes a future, and gives its output.
-fn fills<R, S>(
-    rt: &R,
-    made: Result<FuturesUnorderedBounded<Timed, S>, NewFault>,
-) -> Result<(), Fail>
-where
-    R: Abort + RandomSource + AllocGlobal,
-    S: ReadySource,
-{
-    let task = MockTask::new(rt)?;
-    let mut set = made?;
-    assert_same(
-        rt,
-        (fresh_marks(&mut set), fresh_marks(&mut set)),
-        (SLOTS, 0),
-    );
-    fill(rt, &task, &mut set);
-    assert_same(
-        rt,
-        (set.capacity(), add_each(&mut set, NUMBERS + 1)),
-        (SLOTS, NUMBERS),
-    );
-    Ok(())
-}
+const FILLS: &str =
+    "marks 70000, marked 70000, each_ready 70000, count 70000, gives_each 70000, none, \
+    slots 70000, each_ready 70000, full";
 
 // Each slot is marked, and gives its output.
-fn gives<R>(rt: &R, made: Result<Bounded, NewFault>) -> Result<(), Fail>
-where
-    R: Abort + RandomSource + AllocGlobal,
-{
-    let task = MockTask::new(rt)?;
-    let mut set = made?;
-    assert_same(rt, (set.capacity(), set.len()), (SLOTS, SLOTS));
-    assert_same(rt, fresh_marks(&mut set), 0);
-    assert_same(rt, is_emptied(&task, &mut set, NUMBERS), true);
-    Ok(())
-}
+const GIVES: &str = "slots 70000, count 70000, marked 70000, gives_each 70000, none";
 
 fn with_source(alloc: Global) -> Result<Bounded, NewFault> {
     FuturesUnorderedBounded::with_source(alloc, CoreSource::make(&(), alloc, SLOTS)?)
@@ -97,20 +41,24 @@ fn with_source_limit(alloc: Global) -> Result<Bounded, NewFault> {
 }
 
 fn over(alloc: Global) -> Result<Bounded, NewFault> {
-    FuturesUnorderedBounded::over(&(), alloc, ready_up_to(alloc, NUMBERS)?)
+    FuturesUnorderedBounded::over(&(), alloc, ready_up_to(alloc, SLOTS as u64)?)
 }
 
 fn over_limit(alloc: Global) -> Result<Bounded, NewFault> {
-    FuturesUnorderedBounded::over_limit(&(), alloc, ready_up_to(alloc, NUMBERS)?, 7)
+    FuturesUnorderedBounded::over_limit(&(), alloc, ready_up_to(alloc, SLOTS as u64)?, 7)
 }
 
 #[test]
 fn a_bounded_set_over_a_core_source(rt: HostRuntime) -> Result<(), Fail> {
-    fills(&rt, with_source(rt.alloc()))?;
-    fills(&rt, with_source_limit(rt.alloc()))?;
-    fills(&rt, Bounded::with_new_source(&(), rt.alloc(), SLOTS, 7))?;
-    gives(&rt, over(rt.alloc()))?;
-    gives(&rt, over_limit(rt.alloc()))
+    plays_alone(&rt, with_source(rt.alloc()), FILLS)?;
+    plays_alone(&rt, with_source_limit(rt.alloc()), FILLS)?;
+    plays_alone(
+        &rt,
+        Bounded::with_new_source(&(), rt.alloc(), SLOTS, 7),
+        FILLS,
+    )?;
+    plays_alone(&rt, over(rt.alloc()), GIVES)?;
+    plays_alone(&rt, over_limit(rt.alloc()), GIVES)
 }
 
 // The other set is dropped once this one is made.
@@ -121,90 +69,49 @@ fn make_sibling(alloc: Global) -> Result<Shared, NewFault> {
 
 #[test]
 fn a_new_set_has_no_mark(rt: HostRuntime) -> Result<(), Fail> {
-    fills(&rt, Shared::new(rt.alloc(), SLOTS))?;
-    fills(&rt, make_sibling(rt.alloc()))
-}
-
-// All numbers and one more are added: how many slots there were with all, with the one more, and at the end.
-fn grow(rt: &impl Abort, task: &MockTask, set: &mut Growing) -> [usize; 3] {
-    assert_same(rt, add_each(set, NUMBERS), NUMBERS);
-    let full = set.capacity();
-    assert_same(rt, set.push(ready(NUMBERS)), Ok(()));
-    let more = set.capacity();
-    assert_same(rt, is_emptied(task, set, NUMBERS + 1), true);
-    [full, more, set.capacity()]
-}
-
-fn grows<R>(rt: &R, made: Result<Growing, NewFault>, slots: [usize; 3]) -> Result<(), Fail>
-where
-    R: Abort + RandomSource + AllocGlobal,
-{
-    let task = MockTask::new(rt)?;
-    assert_same(rt, grow(rt, &task, &mut made?), slots);
-    Ok(())
+    plays_alone(&rt, Shared::new(rt.alloc(), SLOTS), FILLS)?;
+    plays_alone(&rt, make_sibling(rt.alloc()), FILLS)
 }
 
 // With one slot at first there are groups of 1, 2, 4 and so on up to 65,536 slots, of which the last one stays.
 #[test]
 fn a_growing_set_over_core_sources(rt: HostRuntime) -> Result<(), Fail> {
-    let doubled = [SLOTS, 3 * SLOTS, 2 * SLOTS];
-    grows(&rt, Growing::over((), rt.alloc(), SLOTS), doubled)?;
-    grows(&rt, Growing::over_limit((), rt.alloc(), SLOTS, 7), doubled)?;
-    grows(
-        &rt,
-        Growing::over((), rt.alloc(), 1),
-        [131_071, 131_071, 65_536],
-    )
+    let doubles =
+        "each_ready 70000, slots 70000, ready 70000, slots 210000, gives_each 70001, none, \
+        slots 140000";
+    plays_alone(&rt, Growing::over((), rt.alloc(), SLOTS), doubles)?;
+    plays_alone(&rt, Growing::over_limit((), rt.alloc(), SLOTS, 7), doubles)?;
+    let grows =
+        "each_ready 70000, slots 131071, ready 70000, slots 131071, gives_each 70001, none, \
+        slots 65536";
+    plays_alone(&rt, Growing::over((), rt.alloc(), 1), grows)
 }
 
-// Adds the numbers at the front, the last one first: whether each is taken.
-fn fronts<Q: HoldsInOrder>(queue: &mut Q) -> bool {
-    for number in (0..NUMBERS).rev() {
-        if !queue.add_front(ready(number)) {
-            return false;
-        }
-    }
-    true
-}
+// All numbers are added at the back, or at the front, the last one first, and are given. Then the queue is full.
+const QUEUES: &str = "each_ready 70000, count 70000, gives_each 70000, none, down_front 70000, \
+    count 70000, gives_each 70000, none, down_front 70000, full_front, full";
 
-// All numbers go in, at the back and at the front, and are given. Then a further one may be taken.
-fn in_order<R, Q: HoldsInOrder>(
-    rt: &R,
-    made: Result<Q, NewFault>,
-    takes_more: bool,
-) -> Result<(), Fail>
-where
-    R: Abort + RandomSource + AllocGlobal,
-    requires { (held : Q) → Q.can_poll held }
-{
-    let task = MockTask::new(rt)?;
-    let mut queue = made?;
-    fill(rt, &task, &mut queue);
-    assert_same(rt, (fronts(&mut queue), queue.count()), (true, SLOTS));
-    assert_same(rt, is_emptied(&task, &mut queue, NUMBERS), true);
-    assert_same(rt, fronts(&mut queue), true);
-    assert_same(rt, queue.add_front(ready(0)), takes_more);
-    assert_same(rt, queue.add(ready(0)), takes_more);
-    Ok(())
-}
+// The same, and then it takes more at both ends.
+const GROWS: &str = "each_ready 70000, count 70000, gives_each 70000, none, down_front 70000, \
+    count 70000, gives_each 70000, none, down_front 70000, front 0, ready 0";
 
 #[test]
 fn a_bounded_queue_over_a_core_source(rt: HostRuntime) -> Result<(), Fail> {
-    in_order(&rt, BoundedQueue::over(&(), rt.alloc(), SLOTS), false)?;
-    in_order(
+    plays_alone(&rt, BoundedQueue::over(&(), rt.alloc(), SLOTS), QUEUES)?;
+    plays_alone(
         &rt,
         BoundedQueue::over_limit(&(), rt.alloc(), SLOTS, 7),
-        false,
+        QUEUES,
     )
 }
 
 #[test]
 fn a_growing_queue_over_core_sources(rt: HostRuntime) -> Result<(), Fail> {
-    in_order(&rt, GrowingQueue::over((), rt.alloc(), SLOTS), true)?;
-    in_order(
+    plays_alone(&rt, GrowingQueue::over((), rt.alloc(), SLOTS), GROWS)?;
+    plays_alone(
         &rt,
         GrowingQueue::over_limit((), rt.alloc(), SLOTS, 7),
-        true,
+        GROWS,
     )?;
-    in_order(&rt, GrowingQueue::over((), rt.alloc(), 1), true)
+    plays_alone(&rt, GrowingQueue::over((), rt.alloc(), 1), GROWS)
 }

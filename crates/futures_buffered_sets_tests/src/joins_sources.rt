@@ -1,17 +1,19 @@
 // Joins over sources of their own: whom the call that ends a join wakes, and when it drops its source.
-use crate::same::assert_same;
 use futures::Future;
 use futures::task::Poll;
 use futures::test::MockTask;
 use futures_buffered_core::ready_source::CoreSource;
 use futures_buffered_sets::{JoinAll, TryJoinAll};
-use std::alloc::{AllocError, Global};
+use std::alloc::{AllocError, AllocGlobal, Global};
+use std::process::Abort;
+use std::random::RandomSource;
 use std::sync::atomic::Ordering::SeqCst;
 use std::test::Fail;
 use test_support::attempt::{Attempt, at_once};
 use test_support::begin::task_and_log;
 use test_support::counted_source::{CountedSource, SourceLog};
 use test_support::polling::poll_join;
+use test_support::same::assert_same;
 use test_support::timed::{Timed, late, ready, ready_up_to};
 
 #[derive(Clone, Copy, Debug, PartialEq, Eq)]
@@ -84,22 +86,39 @@ fn twice<J: Future<Output: Ended>>(task: &MockTask, log: &SourceLog, join: &mut 
     (first, polled(task, log, join))
 }
 
-fn join_twice(
-    alloc: Global,
-    (task, log): &(MockTask, SourceLog),
-    futures: Vec<Timed>,
-) -> Result<(Seen, Seen), Fail> {
-    let mut join: JoinAll<Timed, CountedSource> = JoinAll::over(log, alloc, futures)?;
-    Ok(twice(task, log, &mut join))
+fn row<T: Copy + Drop>(alloc: Global, items: [T; 3]) -> Result<Vec<T>, AllocError> {
+    Ok(Vec::from_array(alloc, items)?)
 }
 
-fn try_join_twice(
-    alloc: Global,
-    (task, log): &(MockTask, SourceLog),
-    futures: Vec<Attempt>,
-) -> Result<(Seen, Seen), Fail> {
-    let mut join: TryJoinAll<Attempt, CountedSource> = TryJoinAll::over(log, alloc, futures)?;
-    Ok(twice(task, log, &mut join))
+// Two polls of the join of these futures see this.
+fn joins<R>(
+    rt: &R,
+    futures: Result<Vec<Timed>, AllocError>,
+    wanted: (Seen, Seen),
+) -> Result<(), Fail>
+where
+    R: Abort + RandomSource + AllocGlobal,
+{
+    let futures = futures?;
+    let (task, log) = task_and_log(rt)?;
+    let mut join: JoinAll<Timed, CountedSource> = JoinAll::over(&log, rt.alloc(), futures)?;
+    assert_same(rt, twice(&task, &log, &mut join), wanted);
+    Ok(())
+}
+
+fn try_joins<R>(
+    rt: &R,
+    futures: Result<Vec<Attempt>, AllocError>,
+    wanted: (Seen, Seen),
+) -> Result<(), Fail>
+where
+    R: Abort + RandomSource + AllocGlobal,
+{
+    let futures = futures?;
+    let (task, log) = task_and_log(rt)?;
+    let mut join: TryJoinAll<Attempt, CountedSource> = TryJoinAll::over(&log, rt.alloc(), futures)?;
+    assert_same(rt, twice(&task, &log, &mut join), wanted);
+    Ok(())
 }
 
 // The first poll ends the join, which drops its source, and no poll wakes its task.
@@ -111,39 +130,34 @@ fn ends(given: Given) -> (Seen, Seen) {
 fn the_call_that_ends_a_join_drops_its_source_and_wakes_nobody(
     rt: HostRuntime,
 ) -> Result<(), Fail> {
-    let futures = vec![in rt.alloc(); ready(1), ready(2), ready(3)]?;
-    let seen = join_twice(rt.alloc(), &task_and_log(&rt)?, futures)?;
-    assert_same(&rt, seen, ends(Given::Three(1, 2, 3)));
-    Ok(())
+    let futures = row(rt.alloc(), [ready(1), ready(2), ready(3)]);
+    joins(&rt, futures, ends(Given::Three(1, 2, 3)))
 }
 
 #[test]
 fn a_pending_join_keeps_its_source_and_wakes_nobody(rt: HostRuntime) -> Result<(), Fail> {
-    let futures = vec![in rt.alloc(); ready(1), late(2), ready(3)]?;
-    let seen = join_twice(rt.alloc(), &task_and_log(&rt)?, futures)?;
+    let futures = row(rt.alloc(), [ready(1), late(2), ready(3)]);
     let pending = (Given::Pending, false, 0);
-    assert_same(&rt, seen, (pending, pending));
-    Ok(())
+    joins(&rt, futures, (pending, pending))
 }
 
 #[test]
 fn the_call_that_ends_a_try_join_drops_its_source_and_wakes_nobody(
     rt: HostRuntime,
 ) -> Result<(), Fail> {
-    let futures = vec![in rt.alloc(); at_once(Ok(1)), at_once(Ok(2)), at_once(Ok(3))]?;
-    let seen = try_join_twice(rt.alloc(), &task_and_log(&rt)?, futures)?;
-    assert_same(&rt, seen, ends(Given::Three(1, 2, 3)));
-    Ok(())
+    let futures = row(rt.alloc(), [at_once(Ok(1)), at_once(Ok(2)), at_once(Ok(3))]);
+    try_joins(&rt, futures, ends(Given::Three(1, 2, 3)))
 }
 
 #[test]
 fn the_call_that_answers_an_error_drops_the_source_and_wakes_nobody(
     rt: HostRuntime,
 ) -> Result<(), Fail> {
-    let futures = vec![in rt.alloc(); at_once(Ok(1)), at_once(Err(7)), at_once(Ok(3))]?;
-    let seen = try_join_twice(rt.alloc(), &task_and_log(&rt)?, futures)?;
-    assert_same(&rt, seen, ends(Given::Error(7)));
-    Ok(())
+    let futures = row(
+        rt.alloc(),
+        [at_once(Ok(1)), at_once(Err(7)), at_once(Ok(3))],
+    );
+    try_joins(&rt, futures, ends(Given::Error(7)))
 }
 
 // How many futures a long join is made of.
@@ -151,13 +165,11 @@ const MANY: u64 = 2_000;
 
 #[test]
 fn the_end_of_a_long_join_drops_its_source(rt: HostRuntime) -> Result<(), Fail> {
-    let seen = join_twice(
-        rt.alloc(),
-        &task_and_log(&rt)?,
-        ready_up_to(rt.alloc(), MANY)?,
-    )?;
-    assert_same(&rt, seen, ends(Given::Many(MANY as usize)));
-    Ok(())
+    joins(
+        &rt,
+        ready_up_to(rt.alloc(), MANY),
+        ends(Given::Many(MANY as usize)),
+    )
 }
 
 // As many, of which the one at this place fails.
@@ -176,13 +188,11 @@ fn attempts(alloc: Global, fails: u64) -> Result<Vec<Attempt>, AllocError> {
 
 #[test]
 fn the_end_of_a_long_try_join_drops_its_source(rt: HostRuntime) -> Result<(), Fail> {
-    let seen = try_join_twice(rt.alloc(), &task_and_log(&rt)?, attempts(rt.alloc(), MANY)?)?;
-    assert_same(&rt, seen, ends(Given::Many(MANY as usize)));
-    let seen = try_join_twice(
-        rt.alloc(),
-        &task_and_log(&rt)?,
-        attempts(rt.alloc(), MANY - 1)?,
+    try_joins(
+        &rt,
+        attempts(rt.alloc(), MANY),
+        ends(Given::Many(MANY as usize)),
     )?;
-    assert_same(&rt, seen, ends(Given::Error(MANY - 1)));
-    Ok(())
+    let last_fails = attempts(rt.alloc(), MANY - 1);
+    try_joins(&rt, last_fails, ends(Given::Error(MANY - 1)))
 }

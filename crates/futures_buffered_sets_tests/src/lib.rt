@@ -7,8 +7,7 @@
 //!   poll names.
 //! - `each_wake`, `answered_wakes`, `many_wakes`: each of 70,000 slots, woken alone; a thread whose wakes are each
 //!   answered; ten million wakes. `wakers` has a waker of each slot.
-//! - `threads`, `joins_threads`, `merges_threads`: what other threads poll, wake and feed, run to its end by `ends`.
-//! - `same`: an assertion as a call.
+//! - `threads`, `joins_threads`, `merges_threads`: what other threads poll, wake and feed.
 #![tactic(auto)]
 
 #[cfg(test)]
@@ -19,8 +18,6 @@ mod closures;
 mod core_sources;
 #[cfg(test)]
 mod each_wake;
-#[cfg(test)]
-mod ends;
 #[cfg(test)]
 mod items;
 #[cfg(test)]
@@ -35,8 +32,6 @@ mod merges_groups;
 mod merges_sources;
 #[cfg(test)]
 mod merges_threads;
-#[cfg(test)]
-mod same;
 #[cfg(test)]
 mod sources;
 #[cfg(test)]

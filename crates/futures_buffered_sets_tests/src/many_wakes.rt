@@ -1,6 +1,4 @@
 // Ten million wakes from eight threads.
-use crate::ends::counted;
-use crate::same::assert_same;
 use crate::wakers::wakers_of;
 use futures::task::Poll;
 use futures_buffered_core::ready_shared::{SharedReady, SharedWaker};
@@ -13,6 +11,8 @@ use std::sync::atomic::AtomicU64;
 use std::sync::atomic::Ordering::SeqCst;
 use std::test::Fail;
 use std::thread::{self, Threads};
+use test_support::ends::counted;
+use test_support::same::assert_same;
 
 const SLOTS: usize = 256;
 

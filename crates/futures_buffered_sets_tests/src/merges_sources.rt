@@ -1,5 +1,5 @@
 // Merges over a core source: of many streams, and what a full one hands back.
-use crate::same::assert_same;
+use futures::Stream;
 use futures::task::Poll;
 use futures::test::MockTask;
 use futures_buffered_core::ready_source::CoreSource;
@@ -7,9 +7,27 @@ use futures_buffered_sets::{Merge, MergeBounded, MergeUnbounded};
 use std::alloc::{AllocError, Global};
 use std::process::Abort;
 use std::test::Fail;
-use test_support::merge_answers::sum_of;
 use test_support::polling::poll_next;
 use test_support::repeats::{Repeats, same};
+use test_support::same::assert_same;
+
+// The sum and the number of the items up to the first answer that is none.
+fn sum_of<M: Stream<Item = u64>>(
+    task: &MockTask,
+    merge: &mut M,
+    most: usize,
+) -> (u64, usize, Poll<Option<u64>>)
+    requires { (stream : M) → M.can_poll stream }
+{
+    let mut sum = 0u64;
+    for count in 0..most {
+        match poll_next(task, merge) {
+            Poll::Ready(Some(item)) => sum = sum.wrapping_add(item),
+            last => return (sum, count, last),
+        }
+    }
+    (sum, most, Poll::Pending)
+}
 
 // Each gives its number once, from 0 to `count - 1`.
 fn streams(alloc: Global, count: u64) -> Result<Vec<Repeats>, AllocError> {

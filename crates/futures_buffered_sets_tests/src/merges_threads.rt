@@ -1,6 +1,4 @@
 // Merges that run while another thread feeds their streams.
-use crate::ends::ended_beside;
-use crate::same::assert_same;
 use futures::StreamExt;
 use futures::task::Poll;
 use futures_buffered_core::ready_shared::{SharedReady, SharedWaker};
@@ -8,7 +6,9 @@ use futures_buffered_sets::{MergeBounded, MergeUnbounded, SlotFuture, SlotStream
 use std::sync::Wait;
 use std::test::Fail;
 use test_support::cells::{Cells, new_cells, send_each};
+use test_support::ends::ended_beside;
 use test_support::receiver::Receiver;
+use test_support::same::assert_same;
 use test_support::sums::count_and_sum;
 
 // Gives what its receiver is sent, and then ends.
@@ -45,11 +45,8 @@ fn a_bounded_merge_while_a_thread_wakes(rt: HostRuntime) -> Result<(), Fail> {
     let Cells { senders, receivers } = new_cells(&rt, rt.alloc(), 4)?;
     let streams = receivers.into_iter().map(|receiver| stream_of(receiver));
     let merge = MergeBounded::<_, SharedReady>::from_iter(rt.alloc(), streams)?;
-    let items = ended_beside(
-        &rt,
-        merge.collect(rt.alloc()),
-        move || send_each(&senders, [1, 2, 4, 8]),
-    )??;
+    let items = merge.collect(rt.alloc());
+    let items = ended_beside(&rt, items, move || send_each(&senders, [1, 2, 4, 8]))??;
     assert_same(&rt, count_and_sum(items.as_slice()), (4, 15));
     Ok(())
 }
@@ -59,11 +56,8 @@ fn a_growing_merge_while_a_thread_wakes(rt: HostRuntime) -> Result<(), Fail> {
     let Cells { senders, receivers } = new_cells(&rt, rt.alloc(), 4)?;
     let streams = receivers.into_iter().map(|receiver| stream_of(receiver));
     let merge = MergeUnbounded::<_, SharedReady>::from_iter(rt.alloc(), streams)?;
-    let items = ended_beside(
-        &rt,
-        merge.collect(rt.alloc()),
-        move || send_each(&senders, [1, 2, 4, 8]),
-    )??;
+    let items = merge.collect(rt.alloc());
+    let items = ended_beside(&rt, items, move || send_each(&senders, [1, 2, 4, 8]))??;
     assert_same(&rt, count_and_sum(items.as_slice()), (4, 15));
     Ok(())
 }

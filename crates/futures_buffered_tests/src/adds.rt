@@ -1,118 +1,56 @@
 // Additions whose refusal `?` takes: what was refused is dropped, and of the rest nothing has changed.
-use crate::holder::Holder;
-use crate::same::assert_same;
-use futures::task::Poll;
-use futures::test::MockTask;
-use futures_buffered::{FuturesOrdered, FuturesUnordered, MergeUnbounded, NewFault};
-use std::alloc::AllocError;
-use std::process::Abort;
-use std::sync::Arc;
-use std::sync::atomic::Ordering::SeqCst;
+use futures_buffered::{FuturesOrdered, FuturesUnordered, MergeUnbounded};
+use std::alloc::Global;
 use std::test::Fail;
 use test_support::counted_source::{CountedSource, SourceLog};
-use test_support::counter::{Counter, new_counter};
-use test_support::dropped::Dropped;
 use test_support::dropped_streams::DroppedStream;
-use test_support::polling::poll_next;
+use test_support::numbered::Numbered;
+use test_support::stage::plays;
 
-type Set = FuturesUnordered<Holder, CountedSource>;
+type Set = FuturesUnordered<Numbered, CountedSource>;
 
-type Queue = FuturesOrdered<Holder, CountedSource>;
+type Queue = FuturesOrdered<Numbered, CountedSource>;
 
 type Merge = MergeUnbounded<DroppedStream, CountedSource>;
 
-// A future that is ready with this number as its error.
-fn held(drops: &Counter, number: u64) -> Result<Holder, AllocError> {
-    let mark = Dropped::new(Arc::try_clone(drops)?);
-    Ok(Holder::new(mark, Some(Err(number))))
-}
-
-fn error_of(polled: Poll<Option<Result<Dropped, u64>>>) -> Option<u64> {
-    match polled {
-        Poll::Ready(Some(Err(number))) => Some(number),
-        _ => None,
-    }
-}
-
-fn add_to_set(set: &mut Set, drops: &Counter, numbers: &[u64]) -> Result<(), NewFault> {
-    for number in numbers {
-        set.add(held(drops, *number)?)?;
-    }
-    Ok(())
-}
-
-fn try_set<R: Abort>(rt: &R, task: &MockTask, drops: &Counter, set: &mut Set) {
-    let added = add_to_set(set, drops, &[1, 2, 3, 4]);
-    assert_same(rt, added, Err(NewFault::Memory));
-    assert_same(rt, (set.len(), set.capacity()), (2, 2));
-    assert_same(rt, drops.load(SeqCst), 1);
-    assert_same(rt, error_of(poll_next(task, set)), Some(1));
-    assert_same(rt, add_to_set(set, drops, &[5]), Ok(()));
-    let added = add_to_set(set, drops, &[6]);
-    assert_same(rt, added, Err(NewFault::Memory));
-    assert_same(rt, (set.len(), drops.load(SeqCst)), (2, 3));
-}
-
 // One group of two slots, and no source for another.
+fn new_set(alloc: Global) -> Result<(SourceLog, Set), Fail> {
+    let log = SourceLog::of(alloc, 1)?;
+    let set = FuturesUnordered::over(log.try_clone()?, alloc, 2)?;
+    Ok((log, set))
+}
+
 #[test]
 fn a_loop_of_adds_ends_at_the_first_refusal(rt: HostRuntime) -> Result<(), Fail> {
-    let task = MockTask::new(&rt)?;
-    let drops = new_counter(rt.alloc())?;
-    let mut set: Set = FuturesUnordered::over(SourceLog::of(rt.alloc(), 1)?, rt.alloc(), 2)?;
-    try_set(&rt, &task, &drops, &mut set);
-    Ok(())
-}
-
-// Adds the numbers in turn at the back and at the front.
-fn add_to_queue(queue: &mut Queue, drops: &Counter, back: u64, front: u64) -> Result<(), NewFault> {
-    queue.add_back(held(drops, back)?)?;
-    queue.add_front(held(drops, front)?)
-}
-
-fn try_queue<R: Abort>(rt: &R, task: &MockTask, drops: &Counter, queue: &mut Queue) {
-    assert_same(rt, add_to_queue(queue, drops, 2, 1), Ok(()));
-    let added = add_to_queue(queue, drops, 3, 0);
-    assert_same(rt, added, Err(NewFault::Memory));
-    assert_same(rt, (queue.len(), drops.load(SeqCst)), (3, 1));
-    let added = add_to_queue(queue, drops, 4, 0);
-    assert_same(rt, added, Err(NewFault::Memory));
-    assert_same(rt, (queue.len(), drops.load(SeqCst)), (3, 2));
-    assert_same(rt, error_of(poll_next(task, queue)), Some(1));
-    assert_same(rt, error_of(poll_next(task, queue)), Some(2));
-    assert_same(rt, add_to_queue(queue, drops, 6, 5), Ok(()));
-    assert_same(rt, error_of(poll_next(task, queue)), Some(5));
-    assert_same(rt, error_of(poll_next(task, queue)), Some(3));
-    assert_same(rt, error_of(poll_next(task, queue)), Some(6));
+    let script =
+        "add 1, add 2, lacks 3, items 1, count 2, slots 2, gives 1, add 5, lacks 6, count 2, \
+        items 3";
+    plays(&rt, new_set(rt.alloc()), script)
 }
 
 // One group of three slots, and no source for another.
-#[test]
-fn a_queue_is_added_to_at_both_ends(rt: HostRuntime) -> Result<(), Fail> {
-    let task = MockTask::new(&rt)?;
-    let drops = new_counter(rt.alloc())?;
-    let mut queue: Queue = FuturesOrdered::over(SourceLog::of(rt.alloc(), 1)?, rt.alloc(), 3)?;
-    try_queue(&rt, &task, &drops, &mut queue);
-    Ok(())
+fn new_queue(alloc: Global) -> Result<(SourceLog, Queue), Fail> {
+    let log = SourceLog::of(alloc, 1)?;
+    let queue = FuturesOrdered::over(log.try_clone()?, alloc, 3)?;
+    Ok((log, queue))
 }
 
-fn add_to_merge(merge: &mut Merge, drops: &Counter, count: usize) -> Result<(), NewFault> {
-    for _ in 0..count {
-        merge.add(DroppedStream::new(1, Arc::try_clone(drops)?))?;
-    }
-    Ok(())
+#[test]
+fn a_queue_is_added_to_at_both_ends(rt: HostRuntime) -> Result<(), Fail> {
+    let script = "back 2, front 1, back 3, lacks_front 0, count 3, items 1, lacks_back 4, items 2, \
+        count 3, gives 1, gives 2, back 6, front 5, gives 5, gives 3, gives 6";
+    plays(&rt, new_queue(rt.alloc()), script)
 }
 
 // A merge without a group, and a source for one.
+fn new_merge(alloc: Global) -> Result<(SourceLog, Merge), Fail> {
+    let log = SourceLog::of(alloc, 1)?;
+    let merge = MergeUnbounded::over(log.try_clone()?, alloc, Vec::new(alloc))?;
+    Ok((log, merge))
+}
+
 #[test]
 fn a_stream_that_is_refused_is_dropped(rt: HostRuntime) -> Result<(), Fail> {
-    let task = MockTask::new(&rt)?;
-    let drops = new_counter(rt.alloc())?;
-    let none = Vec::new(rt.alloc());
-    let mut merge: Merge = MergeUnbounded::over(SourceLog::of(rt.alloc(), 1)?, rt.alloc(), none)?;
-    let added = add_to_merge(&mut merge, &drops, 40);
-    assert_same(&rt, added, Err(NewFault::Memory));
-    assert_same(&rt, (merge.len(), drops.load(SeqCst)), (32, 1));
-    let first = poll_next(&task, &mut merge);
-    assert_same(&rt, first, Poll::Ready(Some(1)));
-    Ok(())
+    let script = "each_add 32, lacks, count 32, items 1, gives 1";
+    plays(&rt, new_merge(rt.alloc()), script)
 }

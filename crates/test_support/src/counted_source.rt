@@ -21,6 +21,8 @@ use std::sync::{Arc, Mutex};
 pub struct SourceLog {
     pub drops: Counter,
     pub registrations: Counter,
+    // How many futures and streams that count their drops were dropped.
+    pub items: Counter,
     // How many more sources are made. After that memory lacks.
     left: Counter,
     task: Arc<Mutex<Option<Waker>>>,
@@ -36,12 +38,14 @@ impl SourceLog {
     pub fn of(alloc: Global, sources: u64) -> Result<SourceLog, AllocError> {
         let drops = new_counter(alloc)?;
         let registrations = new_counter(alloc)?;
+        let items = new_counter(alloc)?;
         let left = new_counter(alloc)?;
         left.store(sources, SeqCst);
         let task = Arc::new(alloc, Mutex::new(None))?;
         Ok(SourceLog {
             drops,
             registrations,
+            items,
             left,
             task,
         })
@@ -51,14 +55,21 @@ impl SourceLog {
     pub fn try_clone(&self) -> Result<SourceLog, AllocError> {
         let drops = Arc::try_clone(&self.drops)?;
         let registrations = Arc::try_clone(&self.registrations)?;
+        let items = Arc::try_clone(&self.items)?;
         let left = Arc::try_clone(&self.left)?;
         let task = Arc::try_clone(&self.task)?;
         Ok(SourceLog {
             drops,
             registrations,
+            items,
             left,
             task,
         })
+    }
+
+    /// Returns a part of a future or a stream. The part counts its drop in `items`.
+    pub fn dropped(&self) -> Result<Dropped, AllocError> {
+        Ok(Dropped::new(Arc::try_clone(&self.items)?))
     }
 }
 

@@ -1,29 +1,20 @@
 //! A stream whose drops are counted.
-use crate::counter::Counter;
-use crate::keep::keep;
+use crate::dropped::Dropped;
 use futures::task::Poll;
 use futures_buffered_core::ready_source::SlotHandle;
 use futures_buffered_unordered::slot_stream::SlotStream;
-use std::alloc::AllocError;
-use std::sync::Arc;
-use std::sync::atomic::Ordering::SeqCst;
 
-/// Gives `left` items of 1, and then ends. It adds one to `drops` when it is dropped.
+/// Gives `left` items of 1, and then ends. Without a number it has no item, and waits for good.
+#[derive(Drop)]
 pub struct DroppedStream {
-    left: u64,
-    drops: Counter,
+    left: Option<u64>,
+    // Dropped with the stream.
+    mark: Dropped,
 }
 
 impl DroppedStream {
-    pub fn new(left: u64, drops: Counter) -> DroppedStream {
-        DroppedStream { left, drops }
-    }
-}
-
-impl Drop for DroppedStream {
-    fn drop(self) {
-        let DroppedStream { left: _, drops } = self;
-        drops.fetch_add(1, SeqCst);
+    pub fn new(left: Option<u64>, mark: Dropped) -> DroppedStream {
+        DroppedStream { left, mark }
     }
 }
 
@@ -31,19 +22,13 @@ impl<W: SlotHandle> SlotStream<W> for DroppedStream {
     type Item = u64;
 
     fn poll_next(&mut self, _waker: &W) -> Poll<Option<u64>> {
-        if self.left == 0 {
-            return Poll::Ready(None);
+        match self.left {
+            None => Poll::Pending,
+            Some(0) => Poll::Ready(None),
+            Some(left) => {
+                self.left = Some(left - 1);
+                Poll::Ready(Some(1))
+            }
         }
-        self.left -= 1;
-        Poll::Ready(Some(1))
     }
-}
-
-/// Adds a stream of so many items at the end.
-pub fn add_dropped(
-    streams: &mut Vec<DroppedStream>,
-    left: u64,
-    drops: &Counter,
-) -> Result<(), AllocError> {
-    keep(streams, DroppedStream::new(left, Arc::try_clone(drops)?))
 }
