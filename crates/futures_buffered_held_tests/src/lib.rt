@@ -6,8 +6,8 @@
 //! - `oneshot_threads`, `oneshot_rounds`: one-shots that are sent from threads, and a send and a poll that meet in one
 //!   round after another.
 //! - `spsc`, `spsc_threads`: channels from one sender, also if that is on a thread.
-//! - `steps`: tables of what a test does with two ends, and what that returns.
-//! - `rounds`, `same`: rounds in which a thread acts, what a source names, and assertions as calls.
+//! - `steps`: scripts of what a test does with two ends, and what comes of it.
+//! - `rounds`: rounds in which a thread acts, and what a source names.
 #![tactic(auto)]
 
 #[cfg(test)]
@@ -18,8 +18,6 @@ mod oneshot_threads;
 mod oneshots;
 #[cfg(test)]
 mod rounds;
-#[cfg(test)]
-mod same;
 #[cfg(test)]
 mod spsc;
 #[cfg(test)]

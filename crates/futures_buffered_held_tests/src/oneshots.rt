@@ -2,81 +2,91 @@
 //! answers stands in `one_shots.calls`.
 ghost use Rattle.std.specs.Prelude.{◌≡◌, IfOk, IfSome};
 
-use crate::same::assert_same;
-use crate::steps::Reply::{Closed, Done, End, Is, Item, NoSlot, Pending, Slot};
-use crate::steps::Step::{DropReceiver, DropSender, IsClosed, Poll, Send, Swap, Take};
-use crate::steps::{Ends, Reply, Step, plays};
-use futures::task;
+use crate::steps::{Came, Ends, plays};
+use futures::task::Poll;
 use futures_buffered_core::ready_shared::{SharedReady, SharedWaker};
-use futures_buffered_held::oneshot::{Canceled, Receiver, Sender, channel};
+use futures_buffered_held::oneshot::{Canceled, Receipt, Receiver, Sender, channel};
 use futures_buffered_unordered::SlotFuture;
 use std::alloc::{AllocError, Global};
-use std::process::Abort;
-use std::sync::Arc;
 use std::sync::atomic::Ordering::SeqCst;
 use std::test::Fail;
 use test_support::counter::{Counter, new_counter};
-use test_support::dropped::Dropped;
-use test_support::run_on::run_on;
+use test_support::numbered::Numbered;
+use test_support::same::assert_same;
 
+// The two ends, what a refused sending gave back, and a receipt.
 #[derive(Drop)]
-struct OneShot<T: Drop> {
-    sender: Option<Sender<T>>,
-    receiver: Option<Receiver<T>>,
+struct OneShot {
+    sender: Option<Sender<Numbered>>,
+    receiver: Option<Receiver<Numbered>>,
+    drops: Counter,
+    back: Option<Numbered>,
+    receipt: Option<Receipt<Numbered>>,
 }
 
-fn new_ends<T: Drop>(alloc: Global) -> Result<OneShot<T>, Fail> {
+fn new_ends(alloc: Global) -> Result<OneShot, Fail> {
+    let drops = new_counter(alloc)?;
     let (sender, receiver) = channel(alloc)?;
     Ok(OneShot {
         sender: Some(sender),
         receiver: Some(receiver),
+        drops,
+        back: None,
+        receipt: None,
     })
 }
 
-impl<T: Drop> OneShot<T> {
-    fn send(&mut self, value: T) -> Result<(), T> {
-        match self.sender.take() {
-            Some(sender) => sender.send(value),
-            None => Err(value),
-        }
+impl OneShot {
+    // Whether the sender took the value. One that is refused is kept.
+    fn send(&mut self, n: u64) -> Option<bool> {
+        let value = Numbered::new(&self.drops, n).ok()?;
+        self.back = match self.sender.take() {
+            Some(sender) => sender.send(value).err(),
+            None => Some(value),
+        };
+        Some(self.back.is_none())
     }
 
-    fn is_canceled(&self) -> bool {
-        match &self.sender {
-            Some(sender) => sender.is_canceled(),
-            None => false,
-        }
+    // The same, with a receipt, which is kept.
+    fn send_with_receipt(&mut self, n: u64) -> Option<bool> {
+        let value = Numbered::new(&self.drops, n).ok()?;
+        self.receipt = match self.sender.take() {
+            Some(sender) => sender.send_with_receipt(value).ok(),
+            None => None,
+        };
+        Some(self.receipt.is_some())
+    }
+
+    fn is_canceled(&self) -> Option<bool> {
+        Some(self.sender.as_ref()?.is_canceled())
     }
 }
 
-impl Ends for OneShot<u64> {
-    fn poll(&mut self, waker: &SharedWaker) -> Reply {
-        let Some(receiver) = &mut self.receiver else {
-            return NoSlot;
-        };
-        match receiver.poll(waker) {
-            task::Poll::Pending => Pending,
-            task::Poll::Ready(Ok(value)) => Item(value),
-            task::Poll::Ready(Err(Canceled)) => End,
+impl Ends for OneShot {
+    fn poll(&mut self, waker: &SharedWaker) -> Option<Came> {
+        match self.receiver.as_mut()?.poll(waker) {
+            Poll::Pending => Some(Came::Pending),
+            Poll::Ready(Ok(value)) => Some(Came::Item(value.number)),
+            Poll::Ready(Err(Canceled)) => Some(Came::End),
         }
     }
 
-    fn does(&mut self, step: Step) -> Reply {
-        match step {
-            Send(value) => match self.send(value) {
-                Ok(()) => Done,
-                Err(back) => Closed(back),
-            },
-            IsClosed => Is(self.is_canceled()),
-            DropSender => {
-                self.sender = None;
-                Done
-            }
-            DropReceiver => {
-                self.receiver = None;
-                Done
-            }
-            _ => NoSlot,
+    fn sends(&mut self, value: u64) -> bool {
+        self.send(value) == Some(true)
+    }
+
+    fn does(&mut self, word: &str, n: u64) -> bool {
+        match word {
+            "refused" => self.send(n) == Some(false),
+            "receipt" => self.send_with_receipt(n) == Some(true),
+            "is_open" => self.is_canceled() == Some(false),
+            "is_canceled" => self.is_canceled() == Some(true),
+            "drops" => self.drops.load(SeqCst) == n,
+            "drop_sender" => self.sender.take().is_some(),
+            "drop_receiver" => self.receiver.take().is_some(),
+            "drop_back" => self.back.take().is_some(),
+            "drop_receipt" => self.receipt.take().is_some(),
+            _ => false,
         }
     }
 }
@@ -84,100 +94,32 @@ impl Ends for OneShot<u64> {
 // The poll that gives the value leaves its slot as it is.
 #[test]
 fn the_waker_of_the_last_poll_is_woken(rt: HostRuntime) -> Result<(), Fail> {
-    let steps = [
-        (Poll(0), Pending),
-        (Poll(1), Pending),
-        (Send(7), Done),
-        (Take, Slot(1)),
-        (Take, NoSlot),
-        (Poll(1), Item(7)),
-        (Take, NoSlot),
-        (Poll(1), End),
-        (Take, NoSlot),
-    ];
-    plays(&rt, 2, new_ends::<u64>(rt.alloc()), &steps)
+    let script = "pending, at 1, pending, send 7, slot 1, no_slot, item 7, no_slot, end, no_slot";
+    plays(&rt, 2, new_ends(rt.alloc()), script)
 }
 
 // The poll that says so leaves its slot as it is.
 #[test]
 fn a_sender_that_goes_wakes_a_late_slot_once(rt: HostRuntime) -> Result<(), Fail> {
-    let steps = [
-        (Poll(100), Pending),
-        (DropSender, Done),
-        (Take, Slot(100)),
-        (Poll(100), End),
-        (Take, NoSlot),
-    ];
-    plays(&rt, 130, new_ends::<u64>(rt.alloc()), &steps)
+    let script = "at 100, pending, drop_sender, slot 100, end, no_slot";
+    plays(&rt, 130, new_ends(rt.alloc()), script)
 }
 
 // The slot has the same number in both sources.
 #[test]
 fn a_receiver_that_moved_to_another_source(rt: HostRuntime) -> Result<(), Fail> {
-    let steps = [
-        (Poll(0), Pending),
-        (Swap, Done),
-        (Poll(0), Pending),
-        (Send(7), Done),
-        (Take, Slot(0)),
-        (Swap, Done),
-        (Take, NoSlot),
-    ];
-    plays(&rt, 1, new_ends::<u64>(rt.alloc()), &steps)
-}
-
-// The receiver goes before a poll. Its value goes with it, and the receipt keeps nothing.
-fn goes_before_a_poll<R: Abort>(
-    rt: &R,
-    drops: &Counter,
-    ends: &mut OneShot<Dropped>,
-    value: Dropped,
-) {
-    let Some(sender) = ends.sender.take() else {
-        return;
-    };
-    let receipt = sender.send_with_receipt(value);
-    assert_same(rt, (receipt.is_ok(), drops.load(SeqCst)), (true, 0));
-    ends.receiver = None;
-    assert_same(rt, drops.load(SeqCst), 1);
-    drop(receipt);
-    assert_same(rt, drops.load(SeqCst), 1);
-}
-
-// The receiver goes before the send, which returns the value.
-fn goes_before_the_send<R: Abort>(
-    rt: &R,
-    drops: &Counter,
-    ends: &mut OneShot<Dropped>,
-    value: Dropped,
-) {
-    assert_same(rt, ends.is_canceled(), false);
-    ends.receiver = None;
-    assert_same(rt, ends.is_canceled(), true);
-    let back = ends.send(value);
-    assert_same(rt, (back.is_err(), drops.load(SeqCst)), (true, 0));
-    drop(back);
-    assert_same(rt, drops.load(SeqCst), 1);
-}
-
-fn counted(alloc: Global) -> Result<(Counter, OneShot<Dropped>), Fail> {
-    Ok((new_counter(alloc)?, new_ends(alloc)?))
+    let script = "pending, swap, pending, send 7, slot 0, swap, no_slot";
+    plays(&rt, 1, new_ends(rt.alloc()), script)
 }
 
 // A value that does not come is dropped with the receiver, whoever keeps the receipt, and one that is handed back by
 // whoever has it.
 #[test]
 fn a_value_that_does_not_come(rt: HostRuntime) -> Result<(), Fail> {
-    run_on(counted(rt.alloc()), |(drops, ends)| {
-        let value = Dropped::new(Arc::try_clone(drops)?);
-        goes_before_a_poll(&rt, drops, ends, value);
-        Ok(())
-    })?;
-    run_on(counted(rt.alloc()), |(drops, ends)| {
-        let value = Dropped::new(Arc::try_clone(drops)?);
-        goes_before_the_send(&rt, drops, ends, value);
-        Ok(())
-    })
+    let taken = "receipt 7, drops 0, drop_receiver, drops 1, drop_receipt, drops 1";
+    plays(&rt, 1, new_ends(rt.alloc()), taken)?;
+    let refused = "is_open, drop_receiver, is_canceled, refused 7, drops 0, drop_back, drops 1";
+    plays(&rt, 1, new_ends(rt.alloc()), refused)
 }
 
 // What a poll gives after a send is what was sent.
@@ -188,7 +130,7 @@ fn passes(alloc: Global, waker: &SharedWaker, value: u64) -> Result<Option<u64>,
     let Ok(receipt) = sender.send_with_receipt(value) else {
         return Ok(None);
     };
-    let task::Poll::Ready(Ok(came)) = receiver.poll(waker) else {
+    let Poll::Ready(Ok(came)) = receiver.poll(waker) else {
         return Ok(None);
     };
     receipt.compare(&mut receiver);

@@ -1,232 +1,156 @@
 //! A channel from one sender: what comes and in which order, whom a sending wakes, what is refused, and what is
 //! dropped.
 use crate::rounds::name_of;
-use crate::same::assert_same;
-use crate::steps::Reply::{Closed, Done, End, Full, Is, Item, NoSlot, Pending, Slot};
-use crate::steps::Step::{
-    DropReceiver, DropSender, Finish, IsClosed, Poll, Polls, Receive, Send, Sends, Take,
-};
-use crate::steps::{Ends, Played, Reply, Step, play, plays};
-use futures::task;
+use crate::steps::{Came, Ends, plays};
+use futures::task::Poll;
 use futures::test::MockTask;
 use futures_buffered_core::ready_core::{MAX_CAPACITY, NewFault};
 use futures_buffered_core::ready_shared::{SharedReady, SharedWaker};
 use futures_buffered_core::ready_source::ReadySource;
 use futures_buffered_held::spsc::{Receiver, Sender, TryRecvError, TrySendError, channel};
 use futures_buffered_unordered::{MergeBounded, SlotStream};
-use std::alloc::{AllocError, AllocGlobal, Global};
+use std::alloc::{AllocGlobal, Global};
 use std::process::Abort;
 use std::random::RandomSource;
-use std::sync::Arc;
 use std::sync::atomic::Ordering::SeqCst;
 use std::test::Fail;
 use test_support::counter::{Counter, new_counter};
-use test_support::dropped::Dropped;
 use test_support::keep::keep;
+use test_support::numbered::Numbered;
 use test_support::polling::poll_next;
 use test_support::run_on::run_on;
+use test_support::same::assert_same;
+use test_support::script::{Scene, play_on};
 
 #[derive(Drop)]
-struct Channel<T: Drop> {
-    sender: Option<Sender<T>>,
-    receiver: Option<Receiver<T>>,
+struct Channel {
+    sender: Option<Sender<Numbered>>,
+    receiver: Option<Receiver<Numbered>>,
+    drops: Counter,
 }
 
-fn new_ends<T: Drop>(alloc: Global, capacity: usize) -> Result<Channel<T>, Fail> {
+fn new_ends(alloc: Global, capacity: usize) -> Result<Channel, Fail> {
+    let drops = new_counter(alloc)?;
     let (sender, receiver) = channel(alloc, capacity)?;
     Ok(Channel {
         sender: Some(sender),
         receiver: Some(receiver),
+        drops,
     })
 }
 
-impl Channel<u64> {
-    fn send(&mut self, value: u64) -> Reply {
-        let Some(sender) = &mut self.sender else {
-            return NoSlot;
-        };
-        match sender.try_send(value) {
-            Ok(()) => Done,
-            Err(TrySendError::Full(back)) => Full(back),
-            Err(TrySendError::Closed(back)) => Closed(back),
-        }
+impl Channel {
+    // What the sender says of the value, if there is a sender.
+    fn sent(&mut self, n: u64) -> Option<Result<(), TrySendError<u64>>> {
+        let sender = self.sender.as_mut()?;
+        let value = Numbered::new(&self.drops, n).ok()?;
+        Some(match sender.try_send(value) {
+            Ok(()) => Ok(()),
+            Err(TrySendError::Full(back)) => Err(TrySendError::Full(back.number)),
+            Err(TrySendError::Closed(back)) => Err(TrySendError::Closed(back.number)),
+        })
     }
 
-    fn receive(&mut self) -> Reply {
-        let Some(receiver) = &mut self.receiver else {
-            return NoSlot;
-        };
-        match receiver.try_recv() {
-            Ok(value) => Item(value),
-            Err(TryRecvError::Empty) => Pending,
-            Err(TryRecvError::Disconnected) => End,
-        }
+    fn received(&mut self) -> Option<Result<u64, TryRecvError>> {
+        let answer = self.receiver.as_mut()?.try_recv();
+        Some(answer.map(|value| value.number))
     }
 
-    fn is_closed(&mut self) -> Reply {
-        match &mut self.sender {
-            Some(sender) => Is(sender.is_closed()),
-            None => NoSlot,
-        }
+    fn is_closed(&mut self) -> Option<bool> {
+        Some(self.sender.as_mut()?.is_closed())
     }
 
-    fn finish(&mut self) -> Reply {
-        match self.sender.take() {
-            Some(sender) => Is(sender.finish().is_some()),
-            None => NoSlot,
-        }
+    // Whether the sender finds its receiver there at its end.
+    fn finishes(&mut self) -> Option<bool> {
+        Some(self.sender.take()?.finish().is_some())
     }
 }
 
-impl Ends for Channel<u64> {
-    fn poll(&mut self, waker: &SharedWaker) -> Reply {
-        let Some(receiver) = &mut self.receiver else {
-            return NoSlot;
-        };
-        match receiver.poll_next(waker) {
-            task::Poll::Pending => Pending,
-            task::Poll::Ready(Some(value)) => Item(value),
-            task::Poll::Ready(None) => End,
+impl Ends for Channel {
+    fn poll(&mut self, waker: &SharedWaker) -> Option<Came> {
+        match self.receiver.as_mut()?.poll_next(waker) {
+            Poll::Pending => Some(Came::Pending),
+            Poll::Ready(Some(value)) => Some(Came::Item(value.number)),
+            Poll::Ready(None) => Some(Came::End),
         }
     }
 
-    fn does(&mut self, step: Step) -> Reply {
-        match step {
-            Send(value) => self.send(value),
-            Receive => self.receive(),
-            IsClosed => self.is_closed(),
-            Finish => self.finish(),
-            DropSender => {
-                self.sender = None;
-                Done
-            }
-            DropReceiver => {
-                self.receiver = None;
-                Done
-            }
-            _ => NoSlot,
+    fn sends(&mut self, value: u64) -> bool {
+        self.sent(value) == Some(Ok(()))
+    }
+
+    fn does(&mut self, word: &str, n: u64) -> bool {
+        match word {
+            "full" => self.sent(n) == Some(Err(TrySendError::Full(n))),
+            "closed" => self.sent(n) == Some(Err(TrySendError::Closed(n))),
+            "got" => self.received() == Some(Ok(n)),
+            "nothing" => self.received() == Some(Err(TryRecvError::Empty)),
+            "over" => self.received() == Some(Err(TryRecvError::Disconnected)),
+            "is_open" => self.is_closed() == Some(false),
+            "is_closed" => self.is_closed() == Some(true),
+            "finish" => self.finishes() == Some(true),
+            "finish_alone" => self.finishes() == Some(false),
+            "drops" => self.drops.load(SeqCst) == n,
+            "drop_sender" => self.sender.take().is_some(),
+            "drop_receiver" => self.receiver.take().is_some(),
+            _ => false,
         }
     }
-}
-
-// Sends and polls in ten turns, with three numbers in the channel all the time.
-fn ten_turns<R: Abort>(rt: &R, played: &mut Played<Channel<u64>>) {
-    for turn in 0..10u64 {
-        let at = turn.wrapping_mul(4);
-        let sends = Sends(at.wrapping_add(3), 4);
-        play(rt, played, &[(sends, Is(true)), (Polls(at, 4), Is(true))]);
-    }
-}
-
-fn new_played(alloc: Global, capacity: usize) -> Result<Played<Channel<u64>>, Fail> {
-    Ok(Played::new(alloc, 1, new_ends(alloc, capacity)?)?)
 }
 
 // Five turns of a ring of seven places, with three values in it at each seam.
 #[test]
 fn values_come_in_order_over_many_turns(rt: HostRuntime) -> Result<(), Fail> {
-    run_on(new_played(rt.alloc(), 7), |played| {
-        play(&rt, played, &[(Sends(0, 3), Is(true))]);
-        ten_turns(&rt, played);
-        play(&rt, played, &[(Polls(40, 3), Is(true)), (Poll(0), Pending)]);
-        Ok(())
-    })
+    let script = "sends 3, sends 4, items 4, sends 4, items 4, sends 4, items 4, sends 4, items 4, \
+        sends 4, items 4, sends 4, items 4, sends 4, items 4, sends 4, items 4, sends 4, items 4, \
+        sends 4, items 4, items 3, pending";
+    plays(&rt, 1, new_ends(rt.alloc(), 7), script)
 }
 
 #[test]
 fn a_full_channel_gives_the_value_back(rt: HostRuntime) -> Result<(), Fail> {
-    let steps = [
-        (Sends(0, 20), Is(true)),
-        (Send(20), Full(20)),
-        (IsClosed, Is(false)),
-        (Receive, Item(0)),
-        (Send(20), Done),
-        (Send(21), Full(21)),
-    ];
-    plays(&rt, 1, new_ends(rt.alloc(), 20), &steps)
+    let script = "sends 20, full 25, is_open, got 5, send 25, full 26";
+    plays(&rt, 1, new_ends(rt.alloc(), 20), script)
 }
 
 // The slot of a receiver that waits is not woken by a sending that finds no room. Once the receiver is gone, the channel
 // is closed, and not full.
 #[test]
 fn a_channel_without_places(rt: HostRuntime) -> Result<(), Fail> {
-    let steps = [
-        (Poll(0), Pending),
-        (Send(1), Full(1)),
-        (Take, NoSlot),
-        (Receive, Pending),
-        (DropReceiver, Done),
-        (Send(2), Closed(2)),
-    ];
-    plays(&rt, 1, new_ends(rt.alloc(), 0), &steps)
+    let script = "pending, full 1, no_slot, nothing, drop_receiver, closed 2";
+    plays(&rt, 1, new_ends(rt.alloc(), 0), script)
 }
 
 #[test]
 fn a_receiver_that_is_gone(rt: HostRuntime) -> Result<(), Fail> {
-    let steps = [
-        (IsClosed, Is(false)),
-        (Send(1), Done),
-        (DropReceiver, Done),
-        (IsClosed, Is(true)),
-        (Send(2), Closed(2)),
-        (Finish, Is(false)),
-    ];
-    plays(&rt, 1, new_ends(rt.alloc(), 2), &steps)
+    let script = "is_open, send 1, drop_receiver, is_closed, closed 2, finish_alone";
+    plays(&rt, 1, new_ends(rt.alloc(), 2), script)
 }
 
 // What was sent comes first, and then the end, each time that it is polled.
 #[test]
 fn a_sender_that_is_gone(rt: HostRuntime) -> Result<(), Fail> {
-    let steps = [
-        (Sends(5, 2), Is(true)),
-        (DropSender, Done),
-        (Polls(5, 2), Is(true)),
-        (Poll(0), End),
-        (Poll(0), End),
-        (Receive, End),
-    ];
-    plays(&rt, 1, new_ends(rt.alloc(), 2), &steps)
+    let script = "sends 2, drop_sender, items 2, end, end, over";
+    plays(&rt, 1, new_ends(rt.alloc(), 2), script)
 }
 
 // One sending after a pending poll wakes, and those behind it do not. `try_recv` and a poll that gives a value leave no
 // waker, and neither `try_recv` nor `is_closed` takes one away.
 #[test]
 fn the_waker_of_the_last_poll_is_woken_once(rt: HostRuntime) -> Result<(), Fail> {
-    let steps = [
-        (Send(6), Done),
-        (Take, NoSlot),
-        (Poll(0), Item(6)),
-        (Poll(0), Pending),
-        (Poll(1), Pending),
-        (Receive, Pending),
-        (IsClosed, Is(false)),
-        (Take, NoSlot),
-        (Send(7), Done),
-        (Take, Slot(1)),
-        (Send(8), Done),
-        (Take, NoSlot),
-        (Poll(1), Item(7)),
-        (Poll(1), Item(8)),
-        (Send(9), Done),
-        (Take, NoSlot),
-    ];
-    plays(&rt, 2, new_ends(rt.alloc(), 4), &steps)
+    let script =
+        "send 6, no_slot, item 6, pending, at 1, pending, nothing, is_open, no_slot, send 7, \
+        slot 1, send 8, no_slot, item 7, item 8, send 9, no_slot";
+    plays(&rt, 2, new_ends(rt.alloc(), 4), script)
 }
 
 // The sender is dropped, or finishes. The end wakes nobody.
 #[test]
 fn a_sender_that_goes_wakes_the_slot(rt: HostRuntime) -> Result<(), Fail> {
-    for (goes, went) in [(DropSender, Done), (Finish, Is(true))] {
-        let steps = [
-            (Poll(0), Pending),
-            (goes, went),
-            (Take, Slot(0)),
-            (Poll(0), End),
-            (Take, NoSlot),
-        ];
-        plays(&rt, 1, new_ends(rt.alloc(), 1), &steps)?;
-    }
-    Ok(())
+    let drops = "pending, drop_sender, slot 0, end, no_slot";
+    plays(&rt, 1, new_ends(rt.alloc(), 1), drops)?;
+    let finishes = "pending, finish, slot 0, end, no_slot";
+    plays(&rt, 1, new_ends(rt.alloc(), 1), finishes)
 }
 
 // A receiver whose slot is in the source, where a task waits.
@@ -234,7 +158,7 @@ fn a_sender_that_goes_wakes_the_slot(rt: HostRuntime) -> Result<(), Fail> {
 struct Waiting {
     task: MockTask,
     source: Option<SharedReady>,
-    ends: Channel<u64>,
+    ends: Channel,
 }
 
 fn new_waiting<R: RandomSource + AllocGlobal>(rt: &R) -> Result<Waiting, Fail> {
@@ -245,21 +169,21 @@ fn new_waiting<R: RandomSource + AllocGlobal>(rt: &R) -> Result<Waiting, Fail> {
 }
 
 // Registers the task, and polls the receiver.
-fn waits(task: &MockTask, source: &mut SharedReady, ends: &mut Channel<u64>) -> Reply {
+fn waits(task: &MockTask, source: &mut SharedReady, ends: &mut Channel) -> Option<Came> {
     task.enter(|cx| source.register(cx));
     if source.capacity() == 0 {
-        return NoSlot;
+        return None;
     }
     match source.try_waker(0) {
         Ok(waker) => ends.poll(&waker),
-        Err(_) => NoSlot,
+        Err(_) => None,
     }
 }
 
 fn goes_while_it_waits<R: Abort>(rt: &R, waiting: &mut Waiting) {
     let Waiting { task, source, ends } = waiting;
     if let Some(source) = source {
-        assert_same(rt, waits(task, source, ends), Pending);
+        assert_same(rt, waits(task, source, ends) == Some(Came::Pending), true);
         ends.receiver = None;
         assert_same(rt, name_of(source), None);
     }
@@ -277,67 +201,13 @@ fn a_receiver_that_goes_while_it_waits(rt: HostRuntime) -> Result<(), Fail> {
     })
 }
 
-#[derive(Drop)]
-struct Counted {
-    drops: Counter,
-    ends: Channel<Dropped>,
-}
-
-fn new_counted(alloc: Global) -> Result<Counted, Fail> {
-    let drops = new_counter(alloc)?;
-    let ends = new_ends(alloc, 20)?;
-    Ok(Counted { drops, ends })
-}
-
-fn send_counted(counted: &mut Counted, count: u64) -> Result<(), AllocError> {
-    for _ in 0..count {
-        let value = Dropped::new(Arc::try_clone(&counted.drops)?);
-        if let Some(sender) = &mut counted.ends.sender {
-            let _ = sender.try_send(value);
-        }
-    }
-    Ok(())
-}
-
-fn receive(counted: &mut Counted, count: usize) {
-    for _ in 0..count {
-        if let Some(receiver) = &mut counted.ends.receiver {
-            drop(receiver.try_recv());
-        }
-    }
-}
-
-// The values in the ring stand over its seam. The second channel's outlive their sender.
-fn are_dropped_over_the_seam<R: Abort>(rt: &R, counted: &mut Counted) -> Result<(), Fail> {
-    send_counted(counted, 20)?;
-    receive(counted, 15);
-    send_counted(counted, 15)?;
-    assert_same(rt, counted.drops.load(SeqCst), 15);
-    counted.ends.receiver = None;
-    assert_same(rt, counted.drops.load(SeqCst), 35);
-    Ok(())
-}
-
-// They outlive their sender.
-fn are_dropped_after_the_sender<R: Abort>(rt: &R, counted: &mut Counted) -> Result<(), Fail> {
-    send_counted(counted, 20)?;
-    counted.ends.sender = None;
-    assert_same(rt, counted.drops.load(SeqCst), 0);
-    counted.ends.receiver = None;
-    assert_same(rt, counted.drops.load(SeqCst), 20);
-    Ok(())
-}
-
+// The values in the ring stand over its seam. Those of the second channel outlive their sender.
 #[test]
 fn values_that_do_not_come_are_dropped_with_the_receiver(rt: HostRuntime) -> Result<(), Fail> {
-    run_on(
-        new_counted(rt.alloc()),
-        |counted| are_dropped_over_the_seam(&rt, counted),
-    )?;
-    run_on(
-        new_counted(rt.alloc()),
-        |counted| are_dropped_after_the_sender(&rt, counted),
-    )
+    let over_the_seam = "sends 20, items 15, sends 15, drops 15, drop_receiver, drops 35";
+    plays(&rt, 1, new_ends(rt.alloc(), 20), over_the_seam)?;
+    let after_the_sender = "sends 20, drop_sender, drops 0, drop_receiver, drops 20";
+    plays(&rt, 1, new_ends(rt.alloc(), 20), after_the_sender)
 }
 
 // A merge of three receivers, and their senders.
@@ -382,46 +252,38 @@ impl Merged {
         }
     }
 
-    // What a poll returns, and whether it leaves the task woken.
-    fn poll(&mut self) -> (task::Poll<Option<u64>>, bool) {
-        let answer = poll_next(&self.task, &mut self.merge);
-        (answer, self.task.is_woken())
-    }
-
-    fn gives<R: Abort>(&mut self, rt: &R, number: u64) {
-        assert_same(rt, self.poll().0, task::Poll::Ready(Some(number)));
+    fn poll(&mut self) -> Poll<Option<u64>> {
+        poll_next(&self.task, &mut self.merge)
     }
 }
 
-// One poll that gives an item takes one ready slot.
-fn send_to_two<R: Abort>(rt: &R, merged: &mut Merged) {
-    assert_same(rt, merged.poll(), (task::Poll::Pending, false));
-    assert_same(rt, merged.sends(2, 30), true);
-    assert_same(rt, merged.task.is_woken(), true);
-    assert_same(rt, (merged.sends(0, 10), merged.sends(2, 31)), (true, true));
-    merged.gives(rt, 30);
-    merged.gives(rt, 10);
-    merged.gives(rt, 31);
-    assert_same(rt, merged.poll().0, task::Poll::Pending);
+impl Scene for Merged {
+    fn does(&mut self, word: &str, n: u64) -> bool {
+        match word {
+            "first_sends" => self.sends(0, n),
+            "last_sends" => self.sends(2, n),
+            "keep_senders" => {
+                self.senders.truncate(n as usize);
+                true
+            }
+            "pending" => self.poll() == Poll::Pending,
+            "gives" => self.poll() == Poll::Ready(Some(n)),
+            "none" => self.poll() == Poll::Ready(None),
+            "streams" => self.merge.len() as u64 == n,
+            "woken" => self.task.is_woken(),
+            "asleep" => !self.task.is_woken(),
+            _ => false,
+        }
+    }
 }
 
-// The senders go, the last one alone.
-fn go<R: Abort>(rt: &R, merged: &mut Merged) {
-    merged.senders.truncate(1);
-    assert_same(rt, merged.poll(), (task::Poll::Pending, false));
-    assert_same(rt, merged.merge.len(), 1);
-    merged.senders.clear();
-    assert_same(rt, merged.task.is_woken(), true);
-    assert_same(rt, merged.poll().0, task::Poll::Ready(None));
-}
-
+// One poll that gives an item takes one ready slot. The senders go, the last one alone.
 #[test]
 fn three_receivers_in_a_merge(rt: HostRuntime) -> Result<(), Fail> {
-    run_on(new_merged(&rt), |merged| {
-        send_to_two(&rt, merged);
-        go(&rt, merged);
-        Ok(())
-    })
+    let script =
+        "pending, asleep, last_sends 30, woken, first_sends 10, last_sends 31, gives 30, gives 10, \
+        gives 31, pending, keep_senders 1, pending, asleep, streams 1, keep_senders 0, woken, none";
+    play_on(&rt, new_merged(&rt), script)
 }
 
 // Why no channel of so many places is made, if none is.

@@ -1,58 +1,41 @@
-//! Tables of steps: what a test does with the two ends of a one-shot or a channel, and what each step returns.
+//! Scripts on the two ends of a one-shot or a channel, beside two sources of as many slots.
 use crate::rounds::name_of;
-use crate::same::assert_same;
 use futures_buffered_core::ready_core::NewFault;
 use futures_buffered_core::ready_shared::{SharedReady, SharedWaker};
 use std::alloc::{AllocGlobal, Global};
 use std::process::Abort;
 use std::test::Fail;
+use test_support::script::{Scene, play};
 
-#[derive(Clone, Copy)]
-pub enum Step {
-    Send(u64),
-    // Sends the numbers from the first on, so many.
-    Sends(u64, u64),
-    // Polls the receiver with the waker of this slot.
-    Poll(usize),
-    // Polls at slot 0 for the numbers from the first on, so many.
-    Polls(u64, u64),
-    Receive,
-    // Takes the next ready slot of the source.
-    Take,
-    IsClosed,
-    Finish,
-    DropSender,
-    DropReceiver,
-    // The other source takes the place of the source.
-    Swap,
-}
-
-#[derive(Clone, Copy, Debug, PartialEq)]
-pub enum Reply {
-    Done,
-    Is(bool),
+/// What a poll of a receiver returned.
+#[derive(Clone, Copy, PartialEq, Eq)]
+pub enum Came {
     Pending,
     Item(u64),
     End,
-    Full(u64),
-    Closed(u64),
-    Slot(usize),
-    NoSlot,
 }
 
-/// The two ends. A step that they do not have returns `NoSlot`.
+/// The two ends.
 pub trait Ends: Drop {
-    fn poll(&mut self, waker: &SharedWaker) -> Reply;
+    /// Returns None if the receiver was dropped.
+    fn poll(&mut self, waker: &SharedWaker) -> Option<Came>;
 
-    fn does(&mut self, step: Step) -> Reply;
+    /// Returns whether the sender took the value.
+    fn sends(&mut self, value: u64) -> bool;
+
+    /// Makes a step of these ends, and returns whether the step does what the word says.
+    fn does(&mut self, word: &str, n: u64) -> bool;
 }
 
-/// The ends, and two sources of as many slots.
+// The ends, two sources, the slot of the next poll, the next number to send, and the next item.
 #[derive(Drop)]
-pub struct Played<E> {
+struct Played<E: Ends> {
     ends: E,
     source: SharedReady,
     other: SharedReady,
+    at: usize,
+    sent: u64,
+    came: u64,
 }
 
 fn two_sources(alloc: Global, slots: usize) -> Result<(SharedReady, SharedReady), NewFault> {
@@ -61,81 +44,84 @@ fn two_sources(alloc: Global, slots: usize) -> Result<(SharedReady, SharedReady)
 }
 
 impl<E: Ends> Played<E> {
-    pub fn new(alloc: Global, slots: usize, ends: E) -> Result<Played<E>, NewFault> {
+    fn new(alloc: Global, slots: usize, ends: E) -> Result<Played<E>, NewFault> {
         match two_sources(alloc, slots) {
             Ok((source, other)) => Ok(Played {
                 ends,
                 source,
                 other,
+                at: 0,
+                sent: 5,
+                came: 5,
             }),
             Err(fault) => Err(fault),
         }
     }
 
-    fn poll(&mut self, slot: usize) -> Reply {
-        if slot >= self.source.capacity() {
-            return Reply::NoSlot;
+    fn poll(&mut self) -> Option<Came> {
+        if self.at >= self.source.capacity() {
+            return None;
         }
-        match self.source.try_waker(slot) {
+        match self.source.try_waker(self.at) {
             Ok(waker) => self.ends.poll(&waker),
-            Err(_) => Reply::NoSlot,
+            Err(_) => None,
         }
     }
 
-    fn polls(&mut self, from: u64, count: u64) -> bool {
-        let mut comes = true;
-        for n in 0..count {
-            comes = comes && self.poll(0) == Reply::Item(from.wrapping_add(n));
-        }
-        comes
-    }
-
-    fn sends(&mut self, from: u64, count: u64) -> bool {
-        let mut is_sent = true;
-        for n in 0..count {
-            is_sent = is_sent && self.ends.does(Step::Send(from.wrapping_add(n))) == Reply::Done;
-        }
-        is_sent
-    }
-
-    fn take(&mut self) -> Reply {
-        match name_of(&mut self.source) {
-            Some(slot) => Reply::Slot(slot),
-            None => Reply::NoSlot,
-        }
-    }
-
-    pub fn does(&mut self, step: Step) -> Reply {
-        match step {
-            Step::Poll(slot) => self.poll(slot),
-            Step::Polls(from, count) => Reply::Is(self.polls(from, count)),
-            Step::Sends(from, count) => Reply::Is(self.sends(from, count)),
-            Step::Take => self.take(),
-            Step::Swap => {
-                std::mem::swap(&mut self.source, &mut self.other);
-                Reply::Done
+    fn items(&mut self, count: u64) -> bool {
+        for _ in 0..count {
+            if self.poll() != Some(Came::Item(self.came)) {
+                return false;
             }
-            _ => self.ends.does(step),
+            self.came = self.came.wrapping_add(1);
+        }
+        true
+    }
+
+    fn sends(&mut self, count: u64) -> bool {
+        for _ in 0..count {
+            if !self.ends.sends(self.sent) {
+                return false;
+            }
+            self.sent = self.sent.wrapping_add(1);
+        }
+        true
+    }
+}
+
+/// `at` says at which slot later polls are, and `slot` which slot the source finds ready.
+impl<E: Ends> Scene for Played<E> {
+    fn does(&mut self, word: &str, n: u64) -> bool {
+        match word {
+            "at" => {
+                self.at = n as usize;
+                true
+            }
+            "pending" => self.poll() == Some(Came::Pending),
+            "item" => self.poll() == Some(Came::Item(n)),
+            "end" => self.poll() == Some(Came::End),
+            "items" => self.items(n),
+            "send" => self.ends.sends(n),
+            "sends" => self.sends(n),
+            "slot" => name_of(&mut self.source) == Some(n as usize),
+            "no_slot" => name_of(&mut self.source) == None,
+            "swap" => {
+                std::mem::swap(&mut self.source, &mut self.other);
+                true
+            }
+            _ => self.ends.does(word, n),
         }
     }
 }
 
-/// Makes each step, and compares what it returns.
-pub fn play<E: Ends, R: Abort>(rt: &R, played: &mut Played<E>, steps: &[(Step, Reply)]) {
-    for at in 0..steps.len() {
-        let (step, wanted) = steps[at];
-        assert_same(rt, (at, played.does(step)), (at, wanted));
-    }
-}
-
-/// The same of ends just made, beside sources of so many slots.
+/// Plays a script on ends just made, beside sources of so many slots.
 pub fn plays<E: Ends, R: Abort + AllocGlobal>(
     rt: &R,
     slots: usize,
     made: Result<E, Fail>,
-    steps: &[(Step, Reply)],
+    script: &str,
 ) -> Result<(), Fail> {
     let mut played = Played::new(rt.alloc(), slots, made?)?;
-    play(rt, &mut played, steps);
+    play(rt, &mut played, script);
     Ok(())
 }
