@@ -7,7 +7,7 @@
 //!   round after another.
 //! - `spsc`, `spsc_threads`: channels from one sender, also if that is on a thread.
 //! - `steps`: scripts of what a test does with two ends, and what comes of it.
-//! - `rounds`: rounds in which a thread acts, and what a source names.
+//! - `rounds`, `same`: rounds in which a thread acts, what a source names, and an assertion as a call.
 #![tactic(auto)]
 
 #[cfg(test)]
@@ -18,6 +18,8 @@ mod oneshot_threads;
 mod oneshots;
 #[cfg(test)]
 mod rounds;
+#[cfg(test)]
+mod same;
 #[cfg(test)]
 mod spsc;
 #[cfg(test)]

@@ -2,6 +2,7 @@
 //! came, or the slot is marked and the value comes at the next poll: so no later wake stands in for one that was lost.
 //! And a sender looks for its receiver while that is polled.
 use crate::rounds::{Rounds, new_rounds, pause, takes, wait_for};
+use crate::same::assert_same;
 use futures::task::Poll;
 use futures_buffered_core::ready_shared::SharedReady;
 use futures_buffered_held::oneshot::{Receiver, Sender, channel};
@@ -12,7 +13,6 @@ use std::sync::atomic::Ordering::SeqCst;
 use std::test::Fail;
 use std::thread::{self, yield_now};
 use test_support::keep::keep;
-use test_support::same::assert_same;
 
 const ROUNDS: u64 = 50_000;
 

@@ -1,4 +1,5 @@
 //! One-shots that are sent from four threads.
+use crate::same::assert_same;
 use futures::StreamExt;
 use futures::executor::block_on;
 use futures_buffered_held::oneshot::{Canceled, Receiver, Sender, channel};
@@ -7,7 +8,6 @@ use std::alloc::{AllocError, AllocGlobal, Global};
 use std::test::Fail;
 use std::thread::{self, JoinHandle, Threads};
 use test_support::keep::keep;
-use test_support::same::assert_same;
 
 type Numbered = (u64, Sender<u64>);
 

@@ -2,6 +2,7 @@
 //! answers stands in `one_shots.calls`.
 ghost use Rattle.std.specs.Prelude.{◌≡◌, IfOk, IfSome};
 
+use crate::same::assert_same;
 use crate::steps::{Came, Ends, plays};
 use futures::task::Poll;
 use futures_buffered_core::ready_shared::{SharedReady, SharedWaker};
@@ -12,7 +13,6 @@ use std::sync::atomic::Ordering::SeqCst;
 use std::test::Fail;
 use test_support::counter::{Counter, new_counter};
 use test_support::numbered::Numbered;
-use test_support::same::assert_same;
 
 // The two ends, what a refused sending gave back, and a receipt.
 #[derive(Drop)]

@@ -1,6 +1,7 @@
 //! A channel from one sender: what comes and in which order, whom a sending wakes, what is refused, and what is
 //! dropped.
 use crate::rounds::name_of;
+use crate::same::assert_same;
 use crate::steps::{Came, Ends, plays};
 use futures::task::Poll;
 use futures::test::MockTask;
@@ -19,7 +20,6 @@ use test_support::keep::keep;
 use test_support::numbered::Numbered;
 use test_support::polling::poll_next;
 use test_support::run_on::run_on;
-use test_support::same::assert_same;
 use test_support::script::{Scene, play_on};
 
 #[derive(Drop)]
@@ -283,7 +283,7 @@ fn three_receivers_in_a_merge(rt: HostRuntime) -> Result<(), Fail> {
     let script =
         "pending, asleep, last_sends 30, woken, first_sends 10, last_sends 31, gives 30, gives 10, \
         gives 31, pending, keep_senders 1, pending, asleep, streams 1, keep_senders 0, woken, none";
-    play_on(&rt, new_merged(&rt), script)
+    play_on(new_merged(&rt), script)
 }
 
 // Why no channel of so many places is made, if none is.

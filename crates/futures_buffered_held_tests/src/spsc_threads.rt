@@ -5,6 +5,7 @@
 //! Once a round is over, either its answer came, or the slot is marked and the answer comes at the next poll: so no
 //! later wake stands in for one that was lost.
 use crate::rounds::{Rounds, new_rounds, pause, takes, turn_over, wait_for};
+use crate::same::assert_same;
 use futures::task::Poll;
 use futures_buffered_core::ready_core::NewFault;
 use futures_buffered_core::ready_shared::SharedReady;
@@ -16,7 +17,6 @@ use std::sync::atomic::Ordering::SeqCst;
 use std::test::Fail;
 use std::thread;
 use test_support::keep::keep;
-use test_support::same::assert_same;
 
 const ROUNDS: u64 = 45_000;
 

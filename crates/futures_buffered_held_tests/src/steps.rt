@@ -3,7 +3,6 @@ use crate::rounds::name_of;
 use futures_buffered_core::ready_core::NewFault;
 use futures_buffered_core::ready_shared::{SharedReady, SharedWaker};
 use std::alloc::{AllocGlobal, Global};
-use std::process::Abort;
 use std::test::Fail;
 use test_support::script::{Scene, play};
 
@@ -115,13 +114,12 @@ impl<E: Ends> Scene for Played<E> {
 }
 
 /// Plays a script on ends just made, beside sources of so many slots.
-pub fn plays<E: Ends, R: Abort + AllocGlobal>(
+pub fn plays<E: Ends, R: AllocGlobal>(
     rt: &R,
     slots: usize,
     made: Result<E, Fail>,
     script: &str,
 ) -> Result<(), Fail> {
     let mut played = Played::new(rt.alloc(), slots, made?)?;
-    play(rt, &mut played, script);
-    Ok(())
+    play(&mut played, script)
 }

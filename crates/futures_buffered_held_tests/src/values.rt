@@ -1,4 +1,5 @@
 //! Values, closures, one of two, and the items of an iterator. `one_of_two_is_polled` has a value in a set too.
+use crate::same::assert_same;
 use futures::executor::block_on;
 use futures::task::Poll;
 use futures::test::MockTask;
@@ -14,7 +15,6 @@ use std::alloc::AllocGlobal;
 use std::random::RandomSource;
 use std::test::Fail;
 use test_support::polling::poll_next;
-use test_support::same::assert_same;
 
 #[test]
 fn a_value_is_given_once(rt: HostRuntime) -> Result<(), Fail> {

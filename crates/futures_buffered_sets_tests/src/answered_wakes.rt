@@ -1,4 +1,5 @@
 // Each wake is answered before its thread makes the next, so that none can stand in for one that was lost.
+use crate::same::assert_same;
 use futures::task::Poll;
 use futures::test::MockTask;
 use futures_buffered_core::ready_shared::{SharedReady, SharedWaker};
@@ -12,7 +13,6 @@ use std::thread::{self, Threads, yield_now};
 use std::time::{Clock, Instant};
 use test_support::polling::poll_next;
 use test_support::run_on::run_on;
-use test_support::same::assert_same;
 
 // How long the thread asks.
 const MILLISECONDS: u128 = 3_000;

@@ -1,4 +1,5 @@
 // Futures and streams that contain a closure, in each set, queue, merge and join.
+use crate::same::assert_same;
 use futures::Stream;
 use futures::task::Poll;
 use futures::test::MockTask;
@@ -13,7 +14,6 @@ use std::random::RandomSource;
 use std::test::Fail;
 use test_support::called::Called;
 use test_support::polling::{poll_join, poll_next};
-use test_support::same::assert_same;
 
 // It was added, and its output comes at the first poll.
 fn gives_42<R, St>(rt: &R, is_added: bool, mut held: St) -> Result<(), Fail>

@@ -1,4 +1,5 @@
 // Each of many slots, woken alone.
+use crate::same::assert_same;
 use crate::wakers::wakers_of;
 use futures::task::Poll;
 use futures::test::MockTask;
@@ -12,7 +13,6 @@ use std::sync::atomic::Ordering::SeqCst;
 use std::test::Fail;
 use test_support::polling::poll_next;
 use test_support::run_on::run_on;
-use test_support::same::assert_same;
 
 // More slots than two bytes can count.
 const SLOTS: usize = 70_000;

@@ -1,4 +1,5 @@
 // Which items a set or a queue takes from an iterator: those for which it has room, and one more.
+use crate::same::assert_same;
 use futures_buffered_core::ready_core::{MAX_CAPACITY, NewFault};
 use futures_buffered_core::ready_shared::SharedReady;
 use futures_buffered_core::ready_source::CoreSource;
@@ -12,7 +13,6 @@ use std::test::Fail;
 use std::vec::IntoIter;
 use test_support::counted_source::{CountedSource, SourceLog};
 use test_support::counter::{Counter, new_counter};
-use test_support::same::assert_same;
 use test_support::timed::{Timed, drawn, ready, ready_up_to};
 
 type Set = FuturesUnorderedBounded<Timed, CoreSource>;

@@ -1,4 +1,5 @@
 // Joins over sources of their own: whom the call that ends a join wakes, and when it drops its source.
+use crate::same::assert_same;
 use futures::Future;
 use futures::task::Poll;
 use futures::test::MockTask;
@@ -13,7 +14,6 @@ use test_support::attempt::{Attempt, at_once};
 use test_support::begin::task_and_log;
 use test_support::counted_source::{CountedSource, SourceLog};
 use test_support::polling::poll_join;
-use test_support::same::assert_same;
 use test_support::timed::{Timed, late, ready, ready_up_to};
 
 #[derive(Clone, Copy, Debug, PartialEq, Eq)]

@@ -1,9 +1,9 @@
 // Joins whose futures another thread wakes.
+use crate::same::assert_same;
 use futures_buffered_sets::{join_all, try_join_all};
 use std::test::Fail;
 use test_support::cells::{Cells, new_cells, send_each};
 use test_support::ends::ended_beside;
-use test_support::same::assert_same;
 
 #[test]
 fn a_join_while_a_thread_wakes(rt: HostRuntime) -> Result<(), Fail> {

@@ -7,7 +7,7 @@
 //!   poll names.
 //! - `each_wake`, `answered_wakes`, `many_wakes`: each of 70,000 slots, woken alone; a thread whose wakes are each
 //!   answered; ten million wakes. `wakers` has a waker of each slot.
-//! - `threads`, `joins_threads`, `merges_threads`: what other threads poll, wake and feed.
+//! - `threads`, `joins_threads`, `merges_threads`: what other threads poll, wake and feed. `same`: an assertion as a call.
 #![tactic(auto)]
 
 #[cfg(test)]
@@ -32,6 +32,8 @@ mod merges_groups;
 mod merges_sources;
 #[cfg(test)]
 mod merges_threads;
+#[cfg(test)]
+mod same;
 #[cfg(test)]
 mod sources;
 #[cfg(test)]

@@ -1,4 +1,5 @@
 // Ten million wakes from eight threads.
+use crate::same::assert_same;
 use crate::wakers::wakers_of;
 use futures::task::Poll;
 use futures_buffered_core::ready_shared::{SharedReady, SharedWaker};
@@ -12,7 +13,6 @@ use std::sync::atomic::Ordering::SeqCst;
 use std::test::Fail;
 use std::thread::{self, Threads};
 use test_support::ends::counted;
-use test_support::same::assert_same;
 
 const SLOTS: usize = 256;
 

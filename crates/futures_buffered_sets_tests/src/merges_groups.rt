@@ -1,4 +1,5 @@
 // Groups of a growing merge: what is dropped when one leaves, and which registers.
+use crate::same::assert_same;
 use futures_buffered_core::ready_core::NewFault;
 use futures_buffered_sets::MergeUnbounded;
 use std::alloc::{AllocError, Global};
@@ -7,7 +8,6 @@ use std::test::Fail;
 use test_support::counted_source::{CountedSource, SourceLog};
 use test_support::dropped_streams::DroppedStream;
 use test_support::keep::keep;
-use test_support::same::assert_same;
 use test_support::stage::plays;
 
 type Merge = MergeUnbounded<DroppedStream, CountedSource>;

@@ -1,4 +1,5 @@
 // Merges over a core source: of many streams, and what a full one hands back.
+use crate::same::assert_same;
 use futures::Stream;
 use futures::task::Poll;
 use futures::test::MockTask;
@@ -9,7 +10,6 @@ use std::process::Abort;
 use std::test::Fail;
 use test_support::polling::poll_next;
 use test_support::repeats::{Repeats, same};
-use test_support::same::assert_same;
 
 // The sum and the number of the items up to the first answer that is none.
 fn sum_of<M: Stream<Item = u64>>(

@@ -1,4 +1,5 @@
 // Merges that run while another thread feeds their streams.
+use crate::same::assert_same;
 use futures::StreamExt;
 use futures::task::Poll;
 use futures_buffered_core::ready_shared::{SharedReady, SharedWaker};
@@ -8,7 +9,6 @@ use std::test::Fail;
 use test_support::cells::{Cells, new_cells, send_each};
 use test_support::ends::ended_beside;
 use test_support::receiver::Receiver;
-use test_support::same::assert_same;
 use test_support::sums::count_and_sum;
 
 // Gives what its receiver is sent, and then ends.

@@ -1,4 +1,5 @@
 // Sets over sources of the tests' own: what is dropped with a set or a group, and whom a source that pauses has woken.
+use crate::same::assert_same;
 use futures::test::MockTask;
 use futures_buffered_core::ready_core::{MAX_CAPACITY, NewFault, Taken};
 use futures_buffered_core::ready_source::{NewSource, ReadySource, ScriptSource};
@@ -9,7 +10,6 @@ use std::test::Fail;
 use test_support::counted_source::{CountedSource, SourceLog};
 use test_support::dropped::Dropped;
 use test_support::keep::keep;
-use test_support::same::assert_same;
 use test_support::stage::plays;
 use test_support::timed::Timed;
 

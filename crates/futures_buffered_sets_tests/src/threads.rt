@@ -1,4 +1,5 @@
 // Sets that move to another thread, or are woken from one.
+use crate::same::assert_same;
 use futures::executor::block_on;
 use futures::{StreamExt, future};
 use futures_buffered_core::ready_shared::SharedReady;
@@ -12,7 +13,6 @@ use test_support::attempt::Attempt;
 use test_support::cells::{Cells, new_cells, send_each};
 use test_support::ends::{collected, counted, ended_beside};
 use test_support::receiver::Receiver;
-use test_support::same::assert_same;
 use test_support::sums::count_and_sum;
 use test_support::timed::ready;
 

@@ -6,7 +6,6 @@ use futures::task::Poll;
 use futures::test::MockTask;
 use futures_buffered_core::ready_core::NewFault;
 use std::alloc::AllocGlobal;
-use std::process::Abort;
 use std::random::RandomSource;
 use std::sync::atomic::Ordering::SeqCst;
 use std::test::Fail;
@@ -93,7 +92,7 @@ pub fn plays<R, H: Held>(
     script: &str,
 ) -> Result<(), Fail>
 where
-    R: Abort + RandomSource + AllocGlobal,
+    R: RandomSource + AllocGlobal,
 {
     let (log, held) = made?;
     let task = MockTask::new(rt)?;
@@ -102,14 +101,13 @@ where
         log,
         held: Some(held),
     };
-    play(rt, &mut stage, script);
-    Ok(())
+    play(&mut stage, script)
 }
 
 /// Plays a script on a set that has no log.
 pub fn plays_alone<R, H: Held>(rt: &R, made: Result<H, NewFault>, script: &str) -> Result<(), Fail>
 where
-    R: Abort + RandomSource + AllocGlobal,
+    R: RandomSource + AllocGlobal,
 {
     plays(rt, with_log(rt, made?), script)
 }
