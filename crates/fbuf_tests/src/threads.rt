@@ -129,6 +129,12 @@ impl<'a> SlotHandle for Noting<'a> {
 }
 
 impl<'a> SlotWaker for Noting<'a> {
+    ghost use Rattle.std.specs.Prelude.{⊤};
+
+    type Made = ();
+
+    ghost makes = { λ _ _. ⊤ };
+
     fn wake(&self) {
         let before = self.came.fetch_add(1, SeqCst);
         if self.count.wakes() > before {

@@ -9,6 +9,7 @@ use Rattle.futures_buffered_table.specs.declared.answer.Woke.TheVariants.{Fresh}
 use Rattle.futures_buffered_table.specs.declared.view.AtomicStep.{AtomicStep}
 use Rattle.futures_buffered_core.proofs.RangeLemmas.{range_push}
 use Rattle.futures_buffered_core.specs.ReadyShared.{IsNewShared, MarksShared, Shared}
+use Rattle.futures_buffered_core.specs.WakerPlace.{new_publisher}
 use Rattle.futures_buffered_core.specs.ReadySource.{IsMadeMarked, MarksEach, MarksSlot, SourceLaws, SourceSteps}
 
 -- marks of any slots keep the number of slots
@@ -31,13 +32,13 @@ marks_in_order new n (suc k) none =
     (Fresh, (wake_in_order n k, (entry_before n k, refl), refl)))
 
 -- so a source whose first marks made wakes of all its slots is one that was made and then marked
-pub made_marked : (n : ℕ) (s : Shared) → s.capacity ≡ n → s.head ≡ n → s.taken ≡ [] → s.marked ≡ all_wakes n
+pub made_marked : (n : ℕ) (s : Shared) → s.capacity ≡ n → s.head ≡ n → s.taken ≡ [] → s.marked ≡ all_wakes n → s.publisher ≡ new_publisher
     → IsMadeMarked IsNewShared MarksShared n s
-made_marked n s capacity head taken marked =
+made_marked n s capacity head taken marked none =
     let new : Shared = record s { marked = [] } in
     record {
       new_source = new;
-      was_made = (capacity, head, taken, refl);
+      was_made = (capacity, head, taken, refl, none);
       marked = subst (λ (steps : List AtomicStep). MarksEach MarksShared new (range_with_len 0 n) (record s { marked = steps })) (sym marked)
           (marks_in_order new n n refl);
     }

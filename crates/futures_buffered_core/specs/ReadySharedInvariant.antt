@@ -3,7 +3,6 @@ use Rattle.std.specs.Prelude.{◌≡◌, ◌<◌, ℕ}
 use Rattle.std.specs.Arc.{arc_value}
 use Rattle.futures_buffered_place.specs.History.{PlaceId}
 use Rattle.futures_buffered_table.specs.ReadyList.{ListIdentity, Waker, Poller}
-use Rattle.futures_buffered_core.specs.ReadyShared.{WakerOfShared}
 use Rattle.futures_buffered_core.specs.WakerPlace.{Awaited}
 use Rattle.futures_buffered_core.specs.declared.ready_shared.Lent.{Lent}
 use Rattle.futures_buffered_core.specs.declared.ready_shared.Lent.TheVariants.{OfSlot, OfNoSlot}

@@ -31,6 +31,11 @@ poller_code {O} code = code_by (PlaceId × (Bool × (History O × Option O)))
     (coded× place_id_code (coded× coded_bool (coded× (history_code code) (coded_option code))))
     (λ p. (p.place, (p.alone, (p.did, p.own)))) (λ p. record { place = p.0; alone = p.1.0; did = p.1.1.0; own = p.1.1.1 }) (λ _. refl)
 
+-- what the poller of a source did at its place, and the waker that it keeps, if any
+pub record Publisher (O : Type 0) : Type 0 where
+  pub did : History O
+  pub own : Option O
+
 -- what one wake made: the seat of its steps at the list, and the seat of its steps at the place if it looked there
 pub record MadeWake (O : Type 0) : Type 0 where
   pub listed : Waker
@@ -66,6 +71,22 @@ module _ {O : Type 0} where
   abbrev pub GivesUp : ℕ → Poller O → Poller O → Type 0
   GivesUp made old new = (new.place ≡ old.place) × (new.alone ≡ old.alone) × (new.own ≡ None)
       × PutsOwn made old.alone old.own old.did new.did
+
+  -- what a side did, and the waker that it keeps
+  abbrev pub publisher_of : Poller O → Publisher O
+  publisher_of side = record { did = side.did; own = side.own }
+
+  -- a publisher that made no step, and keeps no waker
+  abbrev pub new_publisher : Publisher O
+  new_publisher = record { did = no_history; own = None }
+
+  -- One publication of the waker, after `made` steps at the list, by a poller that publishes alone or beside others.
+  abbrev pub Publishes : ℕ → O → History O → History O → Type 0
+  Publishes made x old new = (alone : Bool) × PutsOrMeets made alone x old new
+
+  -- the waker that the publisher keeps is published, if it keeps one, and it keeps none
+  abbrev pub PublishesOwn : ℕ → Publisher O → Publisher O → Type 0
+  PublishesOwn made old new = (new.own ≡ None) × ((alone : Bool) × PutsOwn made alone old.own old.did new.did)
 
   -- If the side had no waker, it has the one that it took, if any. Otherwise it keeps its own, and makes no step.
   abbrev pub HasBack : ℕ → Option O → History O → Option O → History O → Type 0

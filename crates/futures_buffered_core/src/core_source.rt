@@ -21,6 +21,12 @@ impl SlotHandle for NoopWaker {
 }
 
 impl SlotWaker for NoopWaker {
+    ghost use Rattle.std.specs.Prelude.{⊤};
+
+    type Made = ();
+
+    ghost makes = { λ _ _. ⊤ };
+
     fn wake(&self) {}
 }
 

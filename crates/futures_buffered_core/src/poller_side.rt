@@ -66,6 +66,8 @@ impl<O: OuterWaker> PollerSide<O> {
         requires { self.old.task.place ≡ place.now.place }
         ensures poll { self.new.poll ≡ self.old.poll }
         ensures same { self.new.task.place ≡ self.old.task.place }
+        ensures alone { self.new.task.alone ≡ self.old.task.alone }
+        ensures own { self.new.task.own ≡ self.old.task.own }
         ensures put { PutsOrMeets (length self.old.poll.steps) self.old.task.alone outer self.old.task.did self.new.task.did }
     {
         self.task.put_in(place, outer, &self.poll);
@@ -80,15 +82,15 @@ impl<O: OuterWaker> PollerSide<O> {
         self.task.give_up_own(place, &self.poll);
     }
 
-    /// Returns the task's side of a sibling source. Publishes the waker that it keeps, if it keeps one.
+    /// Returns the task's side of a sibling source.
     pub fn beside(&mut self, place: &WakerPlace<O>) -> PollerWaker<O>
         requires { self.old.task.place ≡ place.now.place }
         ensures poll { self.new.poll ≡ self.old.poll }
-        ensures place { (result.place ≡ self.old.task.place) × (self.new.task.place ≡ self.old.task.place) }
+        ensures same { self.new.task ≡ record self.old.task { alone = false } }
         ensures new { IsNewPoller None no_history result }
-        ensures alone { (result.alone ≡ false) × (self.new.task.alone ≡ false) }
+        ensures place { (result.place ≡ self.old.task.place) × (result.alone ≡ false) }
     {
-        self.task.beside(place, &self.poll)
+        self.task.beside(place)
     }
 }
 

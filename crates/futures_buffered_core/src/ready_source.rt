@@ -26,9 +26,16 @@ pub trait SlotHandle {
 
 /// Wakes one slot, any number of times, also after the set that it came from is dropped.
 pub trait SlotWaker: SlotHandle {
+    /// What shows the steps of one wake. A caller has no use for it, and drops it.
+    type Made: Drop;
+
+    // What one wake makes.
+    ghost makes: { Self → Self.Made → Type 0 };
+
     /// Marks the slot, unless it is a waker that does nothing. If the mark is newly set and the task's waker is kept
     /// for wakes, takes that waker and wakes the task.
-    fn wake(&self);
+    fn wake(&self) -> Self::Made
+        ensures { makes self.now result };
 }
 
 /// Dequeues slots that were marked.
@@ -82,14 +89,6 @@ pub trait ReadySource: Drop {
         ensures covered { Covers cx.new (needs self.old) }
         ensures kept { Keeps cx.old cx.new };
 
-    /// Tells the source that the set has dropped the values of all its slots. The source releases what it keeps for
-    /// them, if anything. Does not allocate.
-    ///
-    /// A slot that was marked stays marked.
-    fn let_all_go(&mut self)
-        ensures { self.new ≡ self.old }
-    {}
-
     // Each dequeued slot is below the capacity, the capacity does not change, and no dequeue or registration adds a
     // place at which the source waits.
     ghost laws: { SourceLaws marks steps needs slots };
@@ -124,12 +123,17 @@ pub trait NewSource: ReadySource {
     /// A sibling: a source of `cap` slots that waits at the same places of a task's wakes as this one. So if one poll
     /// polls both, one registration covers both, if the source that registers is polled first.
     ///
-    /// Takes time and memory as `make` does. If it fails, the content of this source does not change; the task's waker
-    /// may be kept at another place from then on.
+    /// Takes time and memory as `make` does. Neither changes the content of this source.
     fn make_sibling(&mut self, alloc: Global, cap: usize) -> Result<Self, NewFault>
         ensures source { MakesSlots cap (made cap) result }
         ensures beside { IfOk result (WaitsAlike Self.needs self.old) }
         ensures same { self.new ≡ self.old };
+
+    /// Drops the source, next to siblings whose task may wait. The drop itself wakes no task.
+    fn leave_siblings(self)
+    where
+        Self: Sized,
+    {}
 
     // A new source has the capacity that was asked for.
     ghost made_slots: { (cap : ℕ) (new : Self) → made cap new → Self.slots new ≡ cap };

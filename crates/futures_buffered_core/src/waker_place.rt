@@ -173,14 +173,13 @@ impl<O: OuterWaker> PollerWaker<O> {
         Ok((shared, PollerWaker { seat, own: None }))
     }
 
-    /// Makes the side of a sibling source. Publishes the waker that is kept here, if any, as `put_in` does.
-    pub fn beside<T: ListSeat>(&mut self, place: &WakerPlace<O>, shown: &T) -> PollerWaker<O>
+    /// Makes the side of a sibling source.
+    pub fn beside(&mut self, place: &WakerPlace<O>) -> PollerWaker<O>
         requires { self.old.place ≡ place.now.place }
-        ensures place { (result.place ≡ self.old.place) × (self.new.place ≡ self.old.place) }
+        ensures same { self.new ≡ record self.old { alone = false } }
         ensures new { IsNewPoller None no_history result }
-        ensures alone { (result.alone ≡ false) × (self.new.alone ≡ false) }
+        ensures place { (result.place ≡ self.old.place) × (result.alone ≡ false) }
     {
-        self.give_up_own(place, shown);
         let seat = place.kept.seat_beside(&mut self.seat);
         PollerWaker { seat, own: None }
     }

@@ -30,6 +30,12 @@ pub trait Kind: ReadySource {
     fn sibling(&mut self, _alloc: Global, _slots: usize) -> Result<Self, NewFault> {
         Err(NewFault::Memory)
     }
+
+    fn leave(self)
+    where
+        Self: Sized,
+    {
+    }
 }
 
 impl Kind for ScriptSource {}
@@ -45,6 +51,10 @@ impl Kind for CoreSource {
     fn sibling(&mut self, alloc: Global, slots: usize) -> Result<CoreSource, NewFault> {
         self.make_sibling(alloc, slots)
     }
+
+    fn leave(self) {
+        self.leave_siblings();
+    }
 }
 
 impl Kind for SharedReady {
@@ -55,6 +65,10 @@ impl Kind for SharedReady {
 
     fn sibling(&mut self, alloc: Global, slots: usize) -> Result<SharedReady, NewFault> {
         self.make_sibling(alloc, slots)
+    }
+
+    fn leave(self) {
+        self.leave_siblings();
     }
 }
 

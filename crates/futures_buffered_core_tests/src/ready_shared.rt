@@ -149,7 +149,9 @@ impl<'a, R: Threads> Outers<'a, R> {
         let (first, second) = (self.first, self.second);
         thread::join(
             self.rt,
-            || one.wake(),
+            || {
+                one.wake();
+            },
             || {
                 if is_set(&first.asked) {
                     put_in(source, second, Asks::Never);

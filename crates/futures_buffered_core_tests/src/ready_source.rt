@@ -49,15 +49,15 @@ fn a_script_source_keeps_the_tasks_waker(rt: HostRuntime) -> Result<(), Fail> {
     plays(&rt, script_of(rt.alloc(), 1, answers), script)
 }
 
-// A registration of the task that is kept, a mark and `let_all_go` wake nobody.
+// A registration of the task that is kept, a mark and a sibling wake nobody.
 #[test]
 fn a_core_source_lets_its_task_wait(rt: HostRuntime) -> Result<(), Fail> {
-    let script = "poll 1, poll 1, mark 1, let_all_go, sibling 1";
+    let script = "poll 1, poll 1, mark 1, sibling 1";
     plays(&rt, core_of(rt.alloc(), 2), script)
 }
 
 #[test]
 fn a_script_source_lets_its_task_wait(rt: HostRuntime) -> Result<(), Fail> {
     let source = script_of(rt.alloc(), 2, Vec::new(rt.alloc()));
-    plays(&rt, source, "poll 1, poll 1, mark 1, let_all_go")
+    plays(&rt, source, "poll 1, poll 1, mark 1")
 }

@@ -75,6 +75,15 @@ impl<S: Kind> Tasks<S> {
         true
     }
 
+    // The source that the next step is at leaves its siblings.
+    fn leave(&mut self) -> bool {
+        if self.at >= self.sources.len() {
+            return false;
+        }
+        self.sources.remove(self.at).leave();
+        true
+    }
+
     // A poll that does nothing.
     fn rest(&mut self, n: usize) -> bool {
         self.task(n).enter(|_cx| ());
@@ -92,10 +101,6 @@ impl<S: Kind> Tasks<S> {
             "slots" => source.capacity() == n,
             "wake" => {
                 source.wake_slot(n);
-                true
-            }
-            "let_all_go" => {
-                source.let_all_go();
                 true
             }
             _ => false,
@@ -121,6 +126,7 @@ impl<S: Kind> Scene for Tasks<S> {
             "poll" => self.poll(n),
             "rest" => self.rest(n),
             "sibling" => self.add_sibling(n).is_none(),
+            "leave" => self.leave(),
             "drop" => {
                 self.sources.clear();
                 true

@@ -48,12 +48,28 @@ fn a_second_task_takes_the_place_with_the_poller(rt: HostRuntime) -> Result<(), 
     plays(&rt, source_of(rt.alloc(), 2), script)
 }
 
-// The task's waker is with the poller of the first source as the second is made, and a wake of the second finds it. The
-// making wakes nobody.
+// A source is made beside one at which a task waits, and a wake of the new one finds the task. The making wakes nobody.
 #[test]
 fn a_source_made_beside_finds_the_task_that_waits(rt: HostRuntime) -> Result<(), Fail> {
-    let script = "mark 0, poll 1, slot 0, sibling 2, at 1, wake 1, woken 1, slot 1, empty, at 0, \
-        empty";
+    let script = "mark 0, poll 1, slot 0, empty, sibling 2, at 1, wake 1, woken 1, slot 1, empty, \
+        at 0, empty";
+    plays(&rt, source_of(rt.alloc(), 1), script)
+}
+
+// The task's waker is with the poller of the first source as the second is made. It stays there, so a wake of the second
+// leaves its slot to the next poll.
+#[test]
+fn a_source_made_beside_leaves_the_waker_with_the_poller(rt: HostRuntime) -> Result<(), Fail> {
+    let script = "mark 0, poll 1, slot 0, sibling 2, at 1, wake 1, at 0, poll 1, empty, at 1, \
+        slot 1, empty, wake 0, woken 1";
+    plays(&rt, source_of(rt.alloc(), 1), script)
+}
+
+// The task's waker is with the poller of a source that leaves its siblings. The drop wakes nobody, and a wake of a
+// sibling finds the task.
+#[test]
+fn a_source_that_leaves_its_siblings_wakes_nobody(rt: HostRuntime) -> Result<(), Fail> {
+    let script = "mark 0, poll 1, slot 0, sibling 1, leave, wake 0, woken 1, slot 0, empty";
     plays(&rt, source_of(rt.alloc(), 1), script)
 }
 

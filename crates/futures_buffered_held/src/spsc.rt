@@ -245,7 +245,9 @@ impl<T: Drop, P: Protocol<T>> Receiver<T, P> {
     fn wait(&self, waker: &SharedWaker) {
         match waker.try_clone() {
             Ok(waker) => self.waiting.leave(waker),
-            Err(_) => waker.wake(),
+            Err(_) => {
+                waker.wake();
+            }
         }
     }
 }

@@ -86,12 +86,11 @@ impl<F: Drop, S: NewSource, K> Model for GrowingSet<F, S, K> {
 // Drops the group at this place, which holds nothing. A group ends once, so this code is not inlined into a poll.
 #[cold]
 #[inline(never)]
-fn drop_group<F: Drop, S: ReadySource, K>(groups: &mut Vec<BoundedSet<F, S, K>>, place: usize)
+fn drop_group<F: Drop, S: NewSource, K>(groups: &mut Vec<BoundedSet<F, S, K>>, place: usize)
     requires { place < length groups.old.items }
     ensures { groups.new.items ≡ take place groups.old.items ++ drop (place + 1) groups.old.items }
 {
-    let mut ended = groups.remove(place);
-    ended.let_source_go();
+    groups.remove(place).leave_siblings();
 }
 
 impl<F: Drop, S: NewSource, K> GrowingSet<F, S, K> {

@@ -132,6 +132,12 @@ impl<F: Drop, S: NewSource, K> BoundedSet<F, S, K> {
         })
     }
 
+    /// Drops the set, next to the sets that it was made beside. The drop of its source wakes no task.
+    pub(crate) fn leave_siblings(self) {
+        let BoundedSet { slots: _, source, .. } = self;
+        source.leave_siblings();
+    }
+
     /// Makes a set without a free slot: slot k holds item k, and each slot is marked, in this order. The set has as
     /// many slots as there are items, and a source made for it.
     ///
@@ -315,15 +321,7 @@ impl<F: Drop, S: ReadySource, K> BoundedSet<F, S, K> {
         self.slots.remove(i);
     }
 
-    // Says to the source that no slot holds a value.
-    pub(crate) fn let_source_go(&mut self)
-        ensures { self.new ≡ self.old }
-    {
-        self.source.let_all_go();
-    }
-
-    /// Drops each value, and what the source keeps for the values. Each slot is free then, and slot 0 is the first to
-    /// be used again.
+    /// Drops each value. Each slot is free then, and slot 0 is the first to be used again.
     ///
     /// A slot that was marked stays marked. So a later poll may take it, and polls what it holds by then. Does not
     /// allocate. Takes time in proportion to the capacity, apart from the drops. The call itself does not wake the
@@ -332,7 +330,6 @@ impl<F: Drop, S: ReadySource, K> BoundedSet<F, S, K> {
         ensures { self.new ≡ emptied self.old }
     {
         self.slots.clear();
-        self.let_source_go();
     }
 }
 

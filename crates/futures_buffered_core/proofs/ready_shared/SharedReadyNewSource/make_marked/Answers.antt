@@ -12,6 +12,7 @@ returns c =
           (ap (λ (s : Shared). s.capacity) is ∙ ap (λ (l : ListIdentity). l.capacity) c.in_ok-wakes.ensures.list ∙ list.list)
           (ap (λ (s : Shared). s.head) is ∙ list.poller.1)
           (ap (λ (s : Shared). s.taken) is ∙ list.poller.2)
-          (ap (λ (s : Shared). s.marked) is ∙ list.waker.1);
+          (ap (λ (s : Shared). s.marked) is ∙ list.waker.1)
+          (search rules);
       refuses = search rules;
     }
