@@ -3,6 +3,7 @@
 //!
 //! A contract sees the steps of both, and for each step at the place how many steps at the list came before it.
 ghost use Rattle.std.specs.Prelude.{◌≡◌, ◌⊎◌, ◌<◌, ℕ, true, false, List, ◌++◌, length, None, IsSomeAnd};
+ghost use Rattle.std.specs.Arc.{arc_value};
 ghost use Rattle.futures.specs.Task.{Hears, IsArmed, Keeps, Wakes};
 ghost use Rattle.futures_buffered_core.specs.WakerPlace.{GivesUp, IsNewPoller, PutsOrMeets, TakesBack};
 ghost use Rattle.futures_buffered_place.specs.History.{no_history};
@@ -15,6 +16,7 @@ use crate::waker_place::{AtPlace, OuterWaker, PollerWaker, WakerPlace};
 use futures::task::{Context, Waker};
 use futures_buffered_table::ready_table::{PollSeat, ReadyList};
 use std::marker::Model;
+use std::sync::Arc;
 
 /// Both seats of one poller.
 #[derive(Drop)]
@@ -48,9 +50,9 @@ impl<O: OuterWaker> PollerSide<O> {
     /// It makes steps at the place only if it returns no slot and its head is the stub. Then it has published the waker
     /// that it keeps, if any. It did so after it read the link of the stub, and before it read the tail.
     #[inline(always)]
-    pub fn take(&mut self, list: &ReadyList, place: &WakerPlace<O>) -> Taken
+    pub fn take(&mut self, list: &ReadyList, place: &Arc<WakerPlace<O>>) -> Taken
         requires list { self.old.poll.list ≡ list.now.list }
-        requires place { self.old.task.place ≡ place.now.place }
+        requires place { self.old.task.place ≡ (arc_value place.now).place }
         ensures list { self.new.poll.list ≡ self.old.poll.list }
         ensures named { (slot : ℕ) → result ≡ Slot slot → slot < list.now.capacity }
         ensures shape { (shape : List AtomicStep) × (self.new.poll.steps ≡ self.old.poll.steps ++ shape)
@@ -97,13 +99,13 @@ impl<O: OuterWaker> PollerSide<O> {
 impl PollerSide<Waker> {
     /// Keeps the task's waker. If this side keeps none, it first takes back the one that the place keeps. It does so
     /// after as many steps at the list as this side has made.
-    pub fn register(&mut self, place: &WakerPlace<Waker>, cx: &mut Context<'_>)
-        requires { self.old.task.place ≡ place.now.place }
+    pub fn register(&mut self, place: &Arc<WakerPlace<Waker>>, cx: &mut Context<'_>)
+        requires { self.old.task.place ≡ (arc_value place.now).place }
         ensures poll { self.new.poll ≡ self.old.poll }
         ensures same { self.new.task.place ≡ self.old.task.place }
         ensures alone { self.new.task.alone ≡ self.old.task.alone }
         ensures armed { IsArmed cx.new }
-        ensures heard { Hears cx.new place.now.source }
+        ensures heard { Hears cx.new (arc_value place.now).source }
         ensures kept { Keeps cx.old cx.new }
         ensures own { (cx.new.lacks_waker ≡ true) ⊎ IsSomeAnd self.new.task.own (λ waker. Wakes waker cx.old) }
         ensures back { TakesBack (length self.old.poll.steps) self.old.task.own self.old.task.did self.new.task.did }

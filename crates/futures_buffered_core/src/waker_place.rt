@@ -198,8 +198,8 @@ impl<O: OuterWaker> PollerWaker<O> {
 
 impl<O: OuterWaker> PollerWaker<O> {
     // Takes back the waker that the place keeps, if none is kept here.
-    fn take_back<T: ListSeat>(&mut self, place: &WakerPlace<O>, shown: &T)
-        requires { self.old.place ≡ place.now.place }
+    fn take_back<T: ListSeat>(&mut self, place: &Arc<WakerPlace<O>>, shown: &T)
+        requires { self.old.place ≡ (arc_value place.now).place }
         ensures alone { self.new.alone ≡ self.old.alone }
         ensures same { self.new.place ≡ self.old.place }
         ensures back { HasBack (T.made shown.now) self.old.own self.old.did self.new.own self.new.did }
@@ -219,15 +219,15 @@ impl PollerWaker<Waker> {
     /// If no waker can be made, the task is woken.
     pub fn register<T: ListSeat>(
         &mut self,
-        place: &WakerPlace<Waker>,
+        place: &Arc<WakerPlace<Waker>>,
         cx: &mut Context<'_>,
         shown: &T,
     )
-        requires { self.old.place ≡ place.now.place }
+        requires { self.old.place ≡ (arc_value place.now).place }
         ensures alone { self.new.alone ≡ self.old.alone }
         ensures same { self.new.place ≡ self.old.place }
         ensures armed { IsArmed cx.new }
-        ensures heard { Hears cx.new place.now.source }
+        ensures heard { Hears cx.new (arc_value place.now).source }
         ensures kept { Keeps cx.old cx.new }
         ensures own { (cx.new.lacks_waker ≡ true) ⊎ IsSomeAnd self.new.own (λ waker. Wakes waker cx.old) }
         ensures back { TakesBack (T.made shown.now) self.old.own self.old.did self.new.did }
@@ -253,14 +253,14 @@ impl<O: OuterWaker> PollerWaker<O> {
 /// The poller's side with its place, for one dequeue.
 #[derive(Drop)]
 pub struct AtPlace<'p, O> {
-    place: &'p WakerPlace<O>,
+    place: &'p Arc<WakerPlace<O>>,
     task: &'p mut PollerWaker<O>,
-    ghost is_its_place: { task.now.place ≡ place.now.place } by { TableId-set _ _ },
+    ghost is_its_place: { task.now.place ≡ (arc_value place.now).place } by { TableId-set _ _ },
 }
 
 impl<'p, O> AtPlace<'p, O> {
-    pub fn new(place: &'p WakerPlace<O>, task: &'p mut PollerWaker<O>) -> AtPlace<'p, O>
-        requires { task.old.place ≡ place.now.place }
+    pub fn new(place: &'p Arc<WakerPlace<O>>, task: &'p mut PollerWaker<O>) -> AtPlace<'p, O>
+        requires { task.old.place ≡ (arc_value place.now).place }
         ensures same_reference { result.task.ghost_name ≡ task.entry.ghost_name }
         ensures same { result.task.now ≡ task.old }
     {
@@ -277,9 +277,10 @@ impl<O: OuterWaker> BeforeEmpty for AtPlace<'_, O> {
 
     #[inline(always)]
     fn before_empty(&mut self, made: &StepsMade<'_>) {
+        let place: &WakerPlace<O> = self.place;
         let task = &mut *self.task;
         if task.own.is_some() {
-            task.give_up_own(self.place, made);
+            task.give_up_own(place, made);
         }
     }
 }
