@@ -34,8 +34,7 @@ pub trait Kind: ReadySource {
     fn leave(self)
     where
         Self: Sized,
-    {
-    }
+    {}
 }
 
 impl Kind for ScriptSource {}

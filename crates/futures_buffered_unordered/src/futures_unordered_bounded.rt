@@ -134,7 +134,11 @@ impl<F: Drop, S: NewSource, K> BoundedSet<F, S, K> {
 
     /// Drops the set, next to the sets that it was made beside. The drop of its source wakes no task.
     pub(crate) fn leave_siblings(self) {
-        let BoundedSet { slots: _, source, .. } = self;
+        let BoundedSet {
+            slots: _,
+            source,
+            ..
+        } = self;
         source.leave_siblings();
     }
 
