@@ -13,7 +13,7 @@ pub name_below : (n m : ℕ) (taken : Taken) → ((slot : ℕ) → taken ≡ Slo
 name_below n m taken below same = grind arith
 
 module _ {O : Type 0} where
-  -- the side publishes its waker, so what a source shows of it does
+  -- if the side publishes its waker, so does the publisher that the source shows
   own_shown : (made : ℕ) (old new : Poller O) → GivesUp made old new → PublishesOwn made (publisher_of old) (publisher_of new)
   own_shown made old new gives = (gives.2, (old.alone, gives.3))
 

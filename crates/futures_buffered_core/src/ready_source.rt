@@ -26,14 +26,14 @@ pub trait SlotHandle {
 
 /// Wakes one slot, any number of times, also after the set that it came from is dropped.
 pub trait SlotWaker: SlotHandle {
-    /// What shows the steps of one wake. A caller has no use for it, and drops it.
+    /// What a wake returns: of a `SharedWaker` the seats that made its steps. A caller may drop it.
     type Made: Drop;
 
-    // What one wake makes.
+    // What a wake of this waker may return.
     ghost makes: { Self → Self.Made → Type 0 };
 
     /// Marks the slot, unless it is a waker that does nothing. If the mark is newly set and the task's waker is kept
-    /// for wakes, takes that waker and wakes the task.
+    /// for wakes, takes that waker and wakes the task. Returns what shows its steps.
     fn wake(&self) -> Self::Made
         ensures { makes self.now result };
 }
@@ -123,13 +123,14 @@ pub trait NewSource: ReadySource {
     /// A sibling: a source of `cap` slots that waits at the same places of a task's wakes as this one. So if one poll
     /// polls both, one registration covers both, if the source that registers is polled first.
     ///
-    /// Takes time and memory as `make` does. Neither changes the content of this source.
+    /// Takes time and memory as `make` does. The content of this source does not change, also if the call fails.
     fn make_sibling(&mut self, alloc: Global, cap: usize) -> Result<Self, NewFault>
         ensures source { MakesSlots cap (made cap) result }
         ensures beside { IfOk result (WaitsAlike Self.needs self.old) }
         ensures same { self.new ≡ self.old };
 
-    /// Drops the source, next to siblings whose task may wait. The drop itself wakes no task.
+    /// Drops the source. A source that keeps the task's waker may first publish it for its siblings, so that the drop
+    /// does not wake the task.
     fn leave_siblings(self)
     where
         Self: Sized,

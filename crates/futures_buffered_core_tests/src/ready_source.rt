@@ -49,7 +49,7 @@ fn a_script_source_keeps_the_tasks_waker(rt: HostRuntime) -> Result<(), Fail> {
     plays(&rt, script_of(rt.alloc(), 1, answers), script)
 }
 
-// A registration of the task that is kept, a mark and a sibling wake nobody.
+// A registration of the task that is kept, a mark and the making of a sibling wake nobody.
 #[test]
 fn a_core_source_lets_its_task_wait(rt: HostRuntime) -> Result<(), Fail> {
     let script = "poll 1, poll 1, mark 1, sibling 1";

@@ -132,7 +132,7 @@ impl<F: Drop, S: NewSource, K> BoundedSet<F, S, K> {
         })
     }
 
-    /// Drops the set, next to the sets that it was made beside. The drop of its source wakes no task.
+    /// Drops the set, whose source leaves its siblings.
     pub(crate) fn leave_siblings(self) {
         let BoundedSet {
             slots: _,
