@@ -5,6 +5,7 @@ import os
 import pathlib
 import re
 import resource
+import select
 import shlex
 import subprocess
 import sys
@@ -172,6 +173,10 @@ def opened(place):
         return os.open(place, os.O_WRONLY)
     reader, writer = os.pipe()
     os.close(reader)
+    # A process that another thread starts has the reader too, until it begins its program.
+    without_reader = select.poll()
+    without_reader.register(writer, 0)
+    without_reader.poll()
     return writer
 
 
