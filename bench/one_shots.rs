@@ -2,10 +2,10 @@
 //! a set over the shared source.
 use crate::holders::{Flights, Holder, Set, flights, holders, poll_often};
 use crate::report::Workload;
+use futures::Stream;
 use futures::channel::oneshot as kit;
 use futures::stream::FuturesUnordered as KitSet;
 use futures::task::Context;
-use futures::Stream;
 use futures_buffered_held::oneshot;
 use std::alloc::Global;
 

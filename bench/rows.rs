@@ -32,7 +32,15 @@ const SIZES: [usize; 4] = [16, 256, 4_096, 65_536];
 // How many slots the first group of a growing set has, and how many futures it holds: in four groups, and in eight.
 const GROUPS: [(usize, usize); 2] = [(18, 256), (17, 4_096)];
 
+const JOINS: [(&str, Join); 3] = [
+    ("join_all", Join::OfSlots),
+    ("in flight join_all", Join::InFlight),
+    ("kit join_all", Join::Kit),
+];
+
 const PENDING: &str = "a wake and a pending poll, held";
+
+type Growing = Woken<GrowingSet<InSlot>, SharedWaker>;
 
 // The row of polls of a stream, if that could be made.
 macro_rules! polled {
@@ -101,7 +109,7 @@ impl<R: Clock + RandomSource + AllocGlobal + Print> Report<'_, R> {
             self.timed("set", PENDING, held, made)?;
         }
         for (first, held) in GROUPS {
-            let made = Woken::<GrowingSet<InSlot>, SharedWaker>::new(alloc, first, held, held, false);
+            let made = Growing::new(alloc, first, held, held, false);
             self.timed("growing set", PENDING, held, made)?;
         }
         Ok(())
@@ -112,7 +120,7 @@ impl<R: Clock + RandomSource + AllocGlobal + Print> Report<'_, R> {
         let alloc = self.rt.alloc();
         let name = "a wake in the last group and a pending poll, groups";
         for (groups, first, held) in [(1, 16, 16), (11, 33, 65_536)] {
-            let made = Woken::<GrowingSet<InSlot>, SharedWaker>::new(alloc, first, held, 1, false);
+            let made = Growing::new(alloc, first, held, 1, false);
             self.timed("growing set", name, groups, made)?;
         }
         Ok(())
@@ -185,10 +193,12 @@ impl<R: Clock + RandomSource + AllocGlobal + Print> Report<'_, R> {
         requires { 0 < n }
     {
         let (alloc, name) = (self.rt.alloc(), "a ready one-shot of the kit, at most held");
-        polled!(self, "kit buffered", name, n, Sent(alloc).buffered(alloc, n));
+        let made = Sent(alloc).buffered(alloc, n);
+        polled!(self, "kit buffered", name, n, made);
         let made = Sent(alloc).buffered_ordered(alloc, n);
         polled!(self, "in_flight buffered_ordered", name, n, made);
-        polled!(self, "kit buffer_unordered", name, n, Sent(alloc).buffer_unordered(alloc, n));
+        let made = Sent(alloc).buffer_unordered(alloc, n);
+        polled!(self, "kit buffer_unordered", name, n, made);
         let made = Sent(alloc).buffered_unordered(alloc, n);
         polled!(self, "in_flight buffered_unordered", name, n, made);
         Ok(())
@@ -198,21 +208,24 @@ impl<R: Clock + RandomSource + AllocGlobal + Print> Report<'_, R> {
     fn small(&mut self) -> io::Result<()> {
         let (alloc, name) = (self.rt.alloc(), "made, one ready future, dropped, slots");
         for slots in [1, 16] {
-            self.timed("set", name, slots, Whole::<Set<Yields>>::new(alloc, slots, 1))?;
-            self.timed("in flight", name, slots, Whole::<Flights<Yields>>::new(alloc, slots, 1))?;
+            let made = Whole::<Set<Yields>>::new(alloc, slots, 1);
+            self.timed("set", name, slots, made)?;
+            let made = Whole::<Flights<Yields>>::new(alloc, slots, 1);
+            self.timed("in flight", name, slots, made)?;
         }
-        self.timed("growing set", name, 0, Whole::<GrowingSet<Yields>>::new(alloc, 0, 1))?;
-        self.timed("kit set", name, 0, Whole::<KitSet<Yields>>::new(alloc, 0, 1))?;
+        let made = Whole::<GrowingSet<Yields>>::new(alloc, 0, 1);
+        self.timed("growing set", name, 0, made)?;
+        let made = Whole::<KitSet<Yields>>::new(alloc, 0, 1);
+        self.timed("kit set", name, 0, made)?;
         self.joins(&[1, 4, 16])
     }
 
     fn joins(&mut self, counts: &[usize]) -> io::Result<()> {
         let (alloc, name) = (self.rt.alloc(), "made, polled and ready, a future of");
         for &count in counts {
-            self.timed("join_all", name, count, Some(Joined(alloc, Join::OfSlots, count)))?;
-            let made = Some(Joined(alloc, Join::InFlight, count));
-            self.timed("in flight join_all", name, count, made)?;
-            self.timed("kit join_all", name, count, Some(Joined(alloc, Join::Kit, count)))?;
+            for (of, join) in JOINS {
+                self.timed(of, name, count, Some(Joined(alloc, join, count)))?;
+            }
         }
         Ok(())
     }
@@ -221,11 +234,13 @@ impl<R: Clock + RandomSource + AllocGlobal + Print> Report<'_, R> {
         let alloc = self.rt.alloc();
         let (of, name) = ("growing set", "made, pushed into and drained, a future of");
         for count in [1_000, 10_000, 100_000, 1_000_000] {
-            self.timed(of, name, count, Whole::<GrowingSet<Yields>>::new(alloc, 0, count))?;
+            let made = Whole::<GrowingSet<Yields>>::new(alloc, 0, count);
+            self.timed(of, name, count, made)?;
         }
         self.joins(&[1_000, 100_000, 1_000_000])?;
         let made = MergeBounded::<Feed, SharedReady>::from_iter(alloc, (0..100).map(|_| Feed));
-        polled!(self, "merge", "an item of one of the streams, of", 100, made);
+        let name = "an item of one of the streams, of";
+        polled!(self, "merge", name, 100, made);
         Ok(())
     }
 }

@@ -174,12 +174,7 @@ pub fn sender_looks(rt: &impl Host, places: usize) -> anyhow::Result<()> {
 }
 
 /// So many channels in a merge that a task polls, while each sender sends and goes: all items of each come.
-pub fn merged(
-    rt: &impl Host,
-    channels: usize,
-    places: usize,
-    items: usize,
-) -> anyhow::Result<()> {
+pub fn merged(rt: &impl Host, channels: usize, places: usize, items: usize) -> anyhow::Result<()> {
     let alloc = rt.alloc();
     let task = MockTask::new(rt)?;
     let (mut senders, mut receivers) = (Vec::new(alloc), Vec::new(alloc));

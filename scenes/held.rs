@@ -1,8 +1,6 @@
 //! Sets, queues and merges whose futures threads wake while they are polled, pushed to, cleared and dropped.
 use crate::Host;
-use crate::awaited::{
-    Post, new_awaited, several, take_waker, wake_all, wake_by, wake_from_thread,
-};
+use crate::awaited::{Post, new_awaited, several, take_waker, wake_all, wake_by, wake_from_thread};
 use crate::holders::Holder;
 use crate::tally::wake_often;
 use crate::tasks::{drain, each_came, join_threads, wait_for, wanted};

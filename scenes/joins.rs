@@ -50,7 +50,11 @@ pub fn join(rt: &impl Host, count: usize, wakes: usize) -> anyhow::Result<()> {
 pub fn try_join(rt: &impl Host, count: usize, fails: usize) -> anyhow::Result<()> {
     let task = MockTask::new(rt)?;
     let (held, posts) = several(rt.alloc(), count, 1)?;
-    let attempt = move |number: usize| if number == fails { Err(number) } else { Ok(number) };
+    let attempt = move |number: usize| if number == fails {
+        Err(number)
+    } else {
+        Ok(number)
+    };
     let attempts = held.into_iter().map(move |future| map(future, attempt));
     let mut join = try_join_all(rt.alloc(), attempts)?;
     match complete(rt, &task, &mut join, &posts, 1)? {
