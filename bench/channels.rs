@@ -2,7 +2,6 @@
 //! that holds the kit's streams, and those of this library in one over the shared source.
 use crate::items::Items;
 use crate::report::Workload;
-use futures::Stream;
 use futures::channel::mpsc as kit;
 use futures::stream::{SelectAll, select_all};
 use futures::task::Context;
@@ -16,16 +15,19 @@ use std::alloc::Global;
 const POLLS_AN_ITEM: usize = 100;
 
 /// A merge of channels.
-pub trait Merged: Stream<Item: Drop> {
+pub trait Merged: Drop {
     type Sender: Drop;
 
     type Receiver: Drop;
 
     fn open(alloc: Global, room: usize) -> Option<(Self::Sender, Self::Receiver)>;
 
-    fn merge(alloc: Global, receivers: Vec<Self::Receiver>) -> Option<Items<Self>>;
+    fn merge(alloc: Global, receivers: Vec<Self::Receiver>) -> Option<Self>;
 
     fn send(sender: &mut Self::Sender);
+
+    /// One poll. Says whether an item came.
+    fn polled(&mut self, cx: &mut Context<'_>) -> bool;
 }
 
 // Writes `Merged` for each of these types: the module of its channels, and how it is made of their receivers.
@@ -40,22 +42,26 @@ macro_rules! merges {
                 $channel::channel(alloc, room).ok()
             }
 
-            fn merge(alloc: Global, receivers: Vec<Self::Receiver>) -> Option<Items<Self>> {
+            fn merge(alloc: Global, receivers: Vec<Self::Receiver>) -> Option<Self> {
                 Some(Items::new($made(alloc, receivers).ok()?))
             }
 
             fn send(sender: &mut Self::Sender) {
                 let _ = sender.try_send(1);
             }
+
+            fn polled(&mut self, cx: &mut Context<'_>) -> bool {
+                self.gives(cx)
+            }
         }
     )*};
 }
 
-pub type KitMerge = SelectAll<kit::Receiver<u64>>;
+pub type KitMerge = Items<SelectAll<kit::Receiver<u64>>>;
 
-pub type FlightMerge = in_flight::MergeBounded<kit::Receiver<u64>>;
+pub type FlightMerge = Items<in_flight::MergeBounded<kit::Receiver<u64>>>;
 
-pub type SlotMerge = MergeBounded<spsc::Receiver<u64>, SharedReady>;
+pub type SlotMerge = Items<MergeBounded<spsc::Receiver<u64>, SharedReady>>;
 
 merges! {
     KitMerge: kit, select_all;
@@ -67,7 +73,7 @@ merges! {
 /// merge waits.
 #[derive(Drop)]
 pub struct Channels<M: Merged> {
-    merge: Items<M>,
+    merge: M,
     senders: Vec<M::Sender>,
     burst: usize,
 }
@@ -109,10 +115,10 @@ impl<M: Merged> Workload for Channels<M> {
             if came == calls {
                 break;
             }
-            if self.merge.gives(cx) {
+            if self.merge.polled(cx) {
                 came = came.saturating_add(1);
             }
         }
-        let _ = self.merge.gives(cx);
+        let _ = self.merge.polled(cx);
     }
 }
