@@ -1,8 +1,10 @@
-//! What holds futures that are soon ready: sets and queues of this library, and the kit's set. Their workloads.
+//! What holds futures that are soon ready: sets and queues of this library, also in flight, and those of the kit. Their
+//! workloads.
 use crate::report::Workload;
-use futures::stream::FuturesUnordered as KitSet;
+use futures::stream::{FuturesOrdered as KitQueue, FuturesUnordered as KitSet};
 use futures::task::{Context, Poll};
-use futures::{Future, Stream};
+use futures::{Future, Stream, future};
+use futures_buffered::in_flight::{self, Kept};
 use futures_buffered_core::ready_shared::SharedReady;
 use futures_buffered_joins::join::join_all;
 use futures_buffered_ordered::futures_ordered::FuturesOrdered;
@@ -52,63 +54,60 @@ pub type Queue<F> = FuturesOrderedBounded<F, SharedReady>;
 
 pub type GrowingQueue<F> = FuturesOrdered<F, SharedReady>;
 
-/// A set or a queue of such futures.
+pub type Flights<F> = Kept<in_flight::FuturesUnorderedBounded<F>>;
+
+pub type FlightQueue = Kept<in_flight::FuturesOrderedBounded<Yields>>;
+
+pub fn flights<F: Future<Output: Drop>>(alloc: Global, slots: usize) -> Option<Flights<F>> {
+    Some(Kept::new(in_flight::FuturesUnorderedBounded::new(alloc, slots).ok()?))
+}
+
+fn flight_queue(alloc: Global, slots: usize) -> Option<FlightQueue> {
+    Some(Kept::new(in_flight::FuturesOrderedBounded::new(alloc, slots.max(1)).ok()?))
+}
+
+/// A set or a queue of futures.
 pub trait Holder<F>: Drop {
+    /// One with so many slots, if it has a number of them.
+    fn made(alloc: Global, slots: usize) -> Option<Self>;
+
     /// Adds a future: at the back, where there is one.
     fn add(&mut self, future: F);
 
-    /// One poll. Says whether an output came.
+    /// One poll. Says whether an output came of what holds a future at least.
     fn gives(&mut self, cx: &mut Context<'_>) -> bool;
 }
 
-impl Holder<Yields> for KitSet<Yields> {
-    fn add(&mut self, future: Yields) {
-        let _ = self.push(future);
-    }
+// Writes `Holder` for each of these types of futures: how one is made with so many slots, and what adds a future.
+macro_rules! holders {
+    ($($holder:ty, $future:ty: |$alloc:ident, $slots:ident| $made:expr, $add:ident;)*) => {$(
+        impl Holder<$future> for $holder {
+            fn made($alloc: Global, $slots: usize) -> Option<Self> {
+                $made
+            }
 
-    fn gives(&mut self, cx: &mut Context<'_>) -> bool {
-        self.poll_next(cx) == Poll::Ready(Some(()))
-    }
+            fn add(&mut self, future: $future) {
+                let _ = self.$add(future);
+            }
+
+            fn gives(&mut self, cx: &mut Context<'_>) -> bool {
+                self.poll_next(cx).is_ready()
+            }
+        }
+    )*};
 }
 
-impl Holder<Yields> for Set<Yields> {
-    fn add(&mut self, future: Yields) {
-        let _ = self.try_push(future);
-    }
+pub(crate) use holders;
 
-    fn gives(&mut self, cx: &mut Context<'_>) -> bool {
-        self.poll_next(cx) == Poll::Ready(Some(()))
-    }
-}
-
-impl Holder<Yields> for GrowingSet<Yields> {
-    fn add(&mut self, future: Yields) {
-        let _ = self.push(future);
-    }
-
-    fn gives(&mut self, cx: &mut Context<'_>) -> bool {
-        self.poll_next(cx) == Poll::Ready(Some(()))
-    }
-}
-
-impl Holder<Yields> for Queue<Yields> {
-    fn add(&mut self, future: Yields) {
-        let _ = self.try_push_back(future);
-    }
-
-    fn gives(&mut self, cx: &mut Context<'_>) -> bool {
-        self.poll_next(cx) == Poll::Ready(Some(()))
-    }
-}
-
-impl Holder<Yields> for GrowingQueue<Yields> {
-    fn add(&mut self, future: Yields) {
-        let _ = self.push_back(future);
-    }
-
-    fn gives(&mut self, cx: &mut Context<'_>) -> bool {
-        self.poll_next(cx) == Poll::Ready(Some(()))
-    }
+holders! {
+    Set<Yields>, Yields: |alloc, slots| Set::new(alloc, slots).ok(), try_push;
+    GrowingSet<Yields>, Yields: |alloc, slots| GrowingSet::with_capacity(alloc, slots).ok(), push;
+    Queue<Yields>, Yields: |alloc, slots| Queue::new(alloc, slots).ok(), try_push_back;
+    GrowingQueue<Yields>, Yields: |alloc, slots| GrowingQueue::with_capacity(alloc, slots).ok(), push_back;
+    KitSet<Yields>, Yields: |alloc, _slots| KitSet::new(alloc).ok(), push;
+    KitQueue<Yields, ()>, Yields: |alloc, _slots| KitQueue::new(alloc).ok(), push_back;
+    Flights<Yields>, Yields: |alloc, slots| flights(alloc, slots), try_push;
+    FlightQueue, Yields: |alloc, slots| flight_queue(alloc, slots), try_push_back;
 }
 
 // Adds so many futures, each of which wakes itself so often.
@@ -133,8 +132,8 @@ pub struct Refilled<H> {
 }
 
 impl<H: Holder<Yields>> Refilled<H> {
-    pub fn new(made: Option<H>, held: usize, yields: u64) -> Option<Refilled<H>> {
-        let mut holder = made?;
+    pub fn new(alloc: Global, slots: usize, held: usize, yields: u64) -> Option<Refilled<H>> {
+        let mut holder = H::made(alloc, slots)?;
         fill(&mut holder, held, yields);
         Some(Refilled { holder, yields })
     }
@@ -151,7 +150,13 @@ impl<H: Holder<Yields>> Workload for Refilled<H> {
 /// What is filled and drained. A round adds so many futures, of which the first wakes itself once and the others are
 /// ready, and polls so often.
 #[derive(Drop)]
-pub struct Drained<H>(pub H, pub usize);
+pub struct Drained<H>(H, usize);
+
+impl<H: Holder<Yields>> Drained<H> {
+    pub fn new(alloc: Global, held: usize) -> Option<Drained<H>> {
+        Some(Drained(H::made(alloc, held)?, held))
+    }
+}
 
 impl<H: Holder<Yields>> Workload for Drained<H> {
     fn calls(&self) -> usize {
@@ -165,49 +170,35 @@ impl<H: Holder<Yields>> Workload for Drained<H> {
     }
 }
 
-/// A set that is made with so many slots, if it has a number of them.
-pub trait Made: Holder<Yields> {
-    fn made(alloc: Global, slots: usize) -> Option<Self>;
-}
-
-impl Made for Set<Yields> {
-    fn made(alloc: Global, slots: usize) -> Option<Self> {
-        Set::new(alloc, slots).ok()
-    }
-}
-
-impl Made for GrowingSet<Yields> {
-    fn made(alloc: Global, _slots: usize) -> Option<Self> {
-        Some(GrowingSet::new(alloc))
-    }
-}
-
-impl Made for KitSet<Yields> {
-    fn made(alloc: Global, _slots: usize) -> Option<Self> {
-        KitSet::new(alloc).ok()
-    }
-}
-
-/// A set of one future. A round makes it with so many slots, adds a ready future, takes its output, and drops it.
+/// A set. A round makes it with so many slots, adds so many ready futures, takes their outputs, and drops it.
 #[derive(Drop)]
-pub struct Once<H> {
+pub struct Whole<H> {
     alloc: Global,
     slots: usize,
+    count: usize,
     of: PhantomData<H>,
 }
 
-impl<H> Once<H> {
-    pub fn new(alloc: Global, slots: usize) -> Option<Once<H>> {
-        let of = PhantomData;
-        Some(Once { alloc, slots, of })
+impl<H> Whole<H> {
+    pub fn new(alloc: Global, slots: usize, count: usize) -> Option<Whole<H>> {
+        Some(Whole {
+            alloc,
+            slots,
+            count,
+            of: PhantomData,
+        })
     }
 }
 
-impl<H: Made> Workload for Once<H> {
+impl<H: Holder<Yields>> Workload for Whole<H> {
+    fn calls(&self) -> usize {
+        self.count
+    }
+
     fn run(&mut self, cx: &mut Context<'_>) {
         if let Some(mut set) = H::made(self.alloc, self.slots) {
-            set.add(Yields { left: 0 });
-            let _ = set.gives(cx);
+            fill(&mut set, self.count, 0);
+            poll_often(&mut set, self.count, cx);
         }
     }
 }
@@ -219,33 +210,42 @@ pub fn ready_set(alloc: Global, count: usize) -> GrowingSet<Yields> {
     set
 }
 
-/// A growing set. A round makes it without a group, pushes so many ready futures, and takes their outputs.
-#[derive(Drop)]
-pub struct DrainedSet(pub Global, pub usize);
+/// Whose join is made: that of this library, of slots or in flight, or the kit's.
+#[derive(Clone, Copy)]
+pub enum Join {
+    OfSlots,
+    InFlight,
+    Kit,
+}
 
-impl Workload for DrainedSet {
-    fn calls(&self) -> usize {
-        self.1
-    }
-
-    fn run(&mut self, cx: &mut Context<'_>) {
-        let mut set = ready_set(self.0, self.1);
-        poll_often(&mut set, self.1, cx);
-    }
+// Polls a join, if it could be made.
+macro_rules! poll_once {
+    ($made:expr, $cx:expr) => {
+        if let Ok(mut join) = $made {
+            let _ = join.poll($cx);
+        }
+    };
 }
 
 /// A join. A round makes it of so many ready futures, and polls it once.
 #[derive(Drop)]
-pub struct Joined(pub Global, pub usize);
+pub struct Joined(pub Global, pub Join, pub usize);
 
 impl Workload for Joined {
     fn calls(&self) -> usize {
-        self.1
+        self.2
     }
 
     fn run(&mut self, cx: &mut Context<'_>) {
-        if let Ok(mut join) = join_all(self.0, (0..self.1).map(|_| Yields { left: 0 })) {
-            let _ = join.poll(cx);
+        let (alloc, futures) = (self.0, (0..self.2).map(|_| Yields { left: 0 }));
+        match self.1 {
+            Join::OfSlots => poll_once!(join_all(alloc, futures), cx),
+            Join::InFlight => poll_once!(in_flight::join_all(alloc, futures), cx),
+            Join::Kit => {
+                if let Ok(futures) = futures.collect(alloc) {
+                    poll_once!(future::join_all(alloc, futures), cx)
+                }
+            }
         }
     }
 }

@@ -1,11 +1,8 @@
-//! What calls of the ready list, of shared sources, of sets, of queues and of adaptors cost: run it with the argument
-//! `ns`.
+//! What calls of the ready list, of shared sources, of sets, of queues and of adaptors cost.
 #![tactic(auto)]
 
-mod adaptors;
 mod blocking;
 mod channels;
-mod flights;
 mod holders;
 mod items;
 mod one_shots;
@@ -15,18 +12,8 @@ mod sources;
 mod waiting;
 
 use report::Report;
-use std::io::Write;
-use std::{env, io};
+use std::io;
 
 fn main(rt: HostRuntime) -> io::Result<()> {
-    let mut output = rt.stdout();
-    if env::args(&rt)?.len() < 2 {
-        writeln!(output, "usage: futures_buffered_bench ns")?;
-        return Ok(());
-    }
-    Report {
-        rt: &rt,
-        output: &mut output,
-    }
-    .rows()
+    Report { rt: &rt }.rows()
 }

@@ -1,12 +1,17 @@
-//! One-shots, from channel to output: those of the kit in the kit's own set, in flight, and those of this library in a set over the shared source.
-use crate::holders::{Holder, Set, poll_often};
+//! One-shots, from channel to output: those of the kit in the kit's own set and in flight, and those of this library in
+//! a set over the shared source.
+use crate::holders::{Flights, Holder, Set, flights, holders, poll_often};
 use crate::report::Workload;
+use futures::Stream;
 use futures::channel::oneshot as kit;
 use futures::stream::FuturesUnordered as KitSet;
 use futures::task::Context;
-use futures::Stream;
 use futures_buffered_held::oneshot;
 use std::alloc::Global;
+
+pub type OneShot = oneshot::Receiver<u64>;
+
+pub type KitOneShot = kit::Receiver<u64>;
 
 /// The receiver of a one-shot.
 pub trait Channel: Drop {
@@ -17,48 +22,28 @@ pub trait Channel: Drop {
     fn send(sender: Self::Sender);
 }
 
-impl Channel for kit::Receiver<u64> {
-    type Sender = kit::Sender<u64>;
+macro_rules! one_shots {
+    ($($channel:ident),*) => {$(
+        impl Channel for $channel::Receiver<u64> {
+            type Sender = $channel::Sender<u64>;
 
-    fn open(alloc: Global) -> Option<(kit::Sender<u64>, kit::Receiver<u64>)> {
-        kit::channel(alloc).ok()
-    }
+            fn open(alloc: Global) -> Option<(Self::Sender, Self)> {
+                $channel::channel(alloc).ok()
+            }
 
-    fn send(sender: kit::Sender<u64>) {
-        let _ = sender.send(1);
-    }
+            fn send(sender: Self::Sender) {
+                let _ = sender.send(1);
+            }
+        }
+    )*};
 }
 
-impl Channel for oneshot::Receiver<u64> {
-    type Sender = oneshot::Sender<u64>;
+one_shots!(kit, oneshot);
 
-    fn open(alloc: Global) -> Option<(oneshot::Sender<u64>, oneshot::Receiver<u64>)> {
-        oneshot::channel(alloc).ok()
-    }
-
-    fn send(sender: oneshot::Sender<u64>) {
-        let _ = sender.send(1);
-    }
-}
-
-impl Holder<kit::Receiver<u64>> for KitSet<kit::Receiver<u64>> {
-    fn add(&mut self, receiver: kit::Receiver<u64>) {
-        let _ = self.push(receiver);
-    }
-
-    fn gives(&mut self, cx: &mut Context<'_>) -> bool {
-        self.poll_next(cx).is_ready()
-    }
-}
-
-impl Holder<oneshot::Receiver<u64>> for Set<oneshot::Receiver<u64>> {
-    fn add(&mut self, receiver: oneshot::Receiver<u64>) {
-        let _ = self.try_push(receiver);
-    }
-
-    fn gives(&mut self, cx: &mut Context<'_>) -> bool {
-        self.poll_next(cx).is_ready()
-    }
+holders! {
+    Set<OneShot>, OneShot: |alloc, slots| Set::new(alloc, slots).ok(), try_push;
+    Flights<KitOneShot>, KitOneShot: |alloc, slots| flights(alloc, slots), try_push;
+    KitSet<KitOneShot>, KitOneShot: |alloc, _slots| KitSet::new(alloc).ok(), push;
 }
 
 /// A set of one-shots. A round makes as many as there are slots, lets each be polled, sends to all, and takes their
@@ -72,10 +57,10 @@ pub struct OneShots<H, C: Channel> {
 }
 
 impl<C: Channel, H: Holder<C>> OneShots<H, C> {
-    pub fn new(alloc: Global, made: Option<H>, slots: usize) -> Option<OneShots<H, C>> {
-        made.map(|set| OneShots {
+    pub fn new(alloc: Global, slots: usize) -> Option<OneShots<H, C>> {
+        Some(OneShots {
             alloc,
-            set,
+            set: H::made(alloc, slots)?,
             slots,
             senders: Vec::new(alloc),
         })

@@ -7,7 +7,7 @@ use futures_buffered_core::ready_core::NewFault;
 use futures_buffered_core::ready_shared::{OuterWaker, SharedReady, SharedWaker};
 use futures_buffered_core::ready_source::{NewSource, ReadySource, SlotWaker};
 use futures_buffered_core::ready_table::{PollSeat, ReadyList, WakeSeat};
-use std::alloc::{AllocError, Global};
+use std::alloc::{AllocError, AllocGlobal, Global};
 use std::thread::Threads;
 use std::time::{Clock, Instant};
 use std::{io, thread};
@@ -113,48 +113,29 @@ fn two<T: Threads>(rt: &T, wakers: &[SharedWaker<Nobody>]) {
     thread::join(rt, || wake_all(wakers), || wake_all(wakers));
 }
 
-fn four<T: Threads + Sync>(rt: &T, wakers: &[SharedWaker<Nobody>]) {
-    thread::join(rt, || two(rt, wakers), || two(rt, wakers));
+fn two_or_four<T: Threads + Sync>(rt: &T, wakers: &[SharedWaker<Nobody>], are_four: bool) {
+    if are_four {
+        thread::join(rt, || two(rt, wakers), || two(rt, wakers));
+    } else {
+        two(rt, wakers);
+    }
 }
 
-/// Two or four threads wake the slots one after another, while this one takes as often as each of them wakes.
-#[derive(Drop)]
-pub struct ManyWakers {
-    source: Source,
-    wakers: Vec<SharedWaker<Nobody>>,
-    are_four: bool,
-}
-
-impl ManyWakers {
-    pub fn new(alloc: Global, slots: usize, are_four: bool) -> Result<ManyWakers, NewFault> {
-        let mut source = Source::new(alloc, slots)?;
-        let mut wakers = Vec::new(alloc);
-        add_wakers(&mut wakers, &mut source)?;
-        Ok(ManyWakers {
-            source,
-            wakers,
-            are_four,
-        })
-    }
-
-    fn wake<R: Threads + Sync>(rt: &R, wakers: &[SharedWaker<Nobody>], are_four: bool) {
-        if are_four {
-            four(rt, wakers);
-        } else {
-            two(rt, wakers);
-        }
-    }
-
-    /// The time of one taking, in tenths of a nanosecond.
-    pub fn run<R: Clock + Threads + Sync>(&mut self, rt: &R) -> io::Result<u128> {
-        let (source, wakers, are_four) = (&mut self.source, self.wakers.as_slice(), self.are_four);
-        let takings = (source.capacity() as u64).saturating_mul(ROUNDS);
-        let start = Instant::now(rt)?;
-        thread::join(
-            rt,
-            || Self::wake(rt, wakers, are_four),
-            || take_often(source, takings),
-        );
-        Ok(tenths(start.elapsed(rt)?, takings))
-    }
+/// The time of one taking, in tenths of a nanosecond, where two or four threads wake the slots one after another, and
+/// this one takes as often as each of them wakes.
+pub fn taking<R>(rt: &R, slots: usize, are_four: bool) -> io::Result<u128>
+where
+    R: Clock + AllocGlobal + Threads + Sync,
+{
+    let mut source = Source::new(rt.alloc(), slots).map_err(|_fault| AllocError)?;
+    let mut wakers = Vec::new(rt.alloc());
+    add_wakers(&mut wakers, &mut source)?;
+    let takings = (source.capacity() as u64).saturating_mul(ROUNDS);
+    let start = Instant::now(rt)?;
+    thread::join(
+        rt,
+        || two_or_four(rt, wakers.as_slice(), are_four),
+        || take_often(&mut source, takings),
+    );
+    Ok(tenths(start.elapsed(rt)?, takings))
 }

@@ -1,5 +1,5 @@
-//! Sets of futures that wait to be woken, of this library and of the kit.
-use crate::holders::{GrowingSet, Holder, Set, poll_often};
+//! Sets of futures that wait to be woken, of this library, also in flight, and of the kit.
+use crate::holders::{Flights, GrowingSet, Holder, Set, flights, holders, poll_often};
 use crate::report::Workload;
 use futures::stream::FuturesUnordered as KitSet;
 use futures::task::{Context, Poll, Source, Waker};
@@ -81,7 +81,11 @@ pub struct Kept<W: Drop> {
     ends: bool,
 }
 
-impl SlotFuture<SharedWaker> for Kept<SharedWaker> {
+pub type InSlot = Kept<SharedWaker>;
+
+pub type InTask = Kept<Waker>;
+
+impl SlotFuture<SharedWaker> for InSlot {
     type Output = ();
 
     fn poll(&mut self, waker: &SharedWaker) -> Poll<()> {
@@ -97,7 +101,7 @@ impl SlotFuture<SharedWaker> for Kept<SharedWaker> {
     }
 }
 
-impl Future for Kept<Waker> {
+impl Future for InTask {
     type Output = ();
 
     fn poll(&mut self, cx: &mut Context<'_>) -> Poll<()> {
@@ -112,34 +116,11 @@ impl Future for Kept<Waker> {
     }
 }
 
-impl Holder<Kept<SharedWaker>> for Set<Kept<SharedWaker>> {
-    fn add(&mut self, future: Kept<SharedWaker>) {
-        let _ = self.try_push(future);
-    }
-
-    fn gives(&mut self, cx: &mut Context<'_>) -> bool {
-        self.poll_next(cx) == Poll::Ready(Some(()))
-    }
-}
-
-impl Holder<Kept<SharedWaker>> for GrowingSet<Kept<SharedWaker>> {
-    fn add(&mut self, future: Kept<SharedWaker>) {
-        let _ = self.push(future);
-    }
-
-    fn gives(&mut self, cx: &mut Context<'_>) -> bool {
-        self.poll_next(cx) == Poll::Ready(Some(()))
-    }
-}
-
-impl Holder<Kept<Waker>> for KitSet<Kept<Waker>> {
-    fn add(&mut self, future: Kept<Waker>) {
-        let _ = self.push(future);
-    }
-
-    fn gives(&mut self, cx: &mut Context<'_>) -> bool {
-        self.poll_next(cx) == Poll::Ready(Some(()))
-    }
+holders! {
+    Set<InSlot>, InSlot: |alloc, slots| Set::new(alloc, slots).ok(), try_push;
+    GrowingSet<InSlot>, InSlot: |alloc, slots| GrowingSet::with_capacity(alloc, slots).ok(), push;
+    Flights<InTask>, InTask: |alloc, slots| flights(alloc, slots), try_push;
+    KitSet<InTask>, InTask: |alloc, _slots| KitSet::new(alloc).ok(), push;
 }
 
 /// Each call wakes one of the futures and polls the set. Where futures end, a random one is woken, and another takes
@@ -155,17 +136,17 @@ pub struct Woken<H, W: Drop> {
 }
 
 impl<W: Wakes, H: Holder<Kept<W>>> Woken<H, W> {
-    /// So many futures, of which the last leave their wakers at so many places.
+    /// So many futures in what has so many slots. The last of them leave their wakers at so many places.
     pub fn new(
         alloc: Global,
-        made: Option<H>,
+        slots: usize,
         held: usize,
         places: usize,
         ends: bool,
     ) -> Option<Woken<H, W>> {
         let mut woken = Woken {
             board: Board::new(alloc, places).ok()?,
-            holder: made?,
+            holder: H::made(alloc, slots)?,
             held,
             wakers: Vec::new(alloc),
             ends,

@@ -1,10 +1,10 @@
 //! What a set holds in these scenes: a future, and a stream of one item, that threads wake.
 use crate::Host;
+use crate::tally::wake_often;
 use anyhow::bail;
 use futures::task::Poll;
 use futures_buffered::SlotFuture;
 use futures_buffered_core::ready_shared::SharedWaker;
-use futures_buffered_core::ready_source::SlotWaker;
 use futures_buffered_unordered::slot_stream::SlotStream;
 use std::alloc::{AllocError, Global};
 use std::sync::atomic::AtomicU64;
@@ -15,7 +15,7 @@ use std::thread::{self, JoinHandle};
 /// Where a future leaves its waker, and a thread counts its wakes.
 #[derive(Drop)]
 pub struct Post {
-    woken: AtomicU64,
+    pub woken: AtomicU64,
     waker: Mutex<Option<SharedWaker>>,
 }
 
@@ -35,13 +35,8 @@ pub fn new_awaited(
     number: usize,
     wakes: usize,
 ) -> Result<(Awaited, Arc<Post>), AllocError> {
-    let post = Arc::new(
-        alloc,
-        Post {
-            woken: AtomicU64::new(0),
-            waker: Mutex::new(None),
-        },
-    )?;
+    let (woken, waker) = (AtomicU64::new(0), Mutex::new(None));
+    let post = Arc::new(alloc, Post { woken, waker })?;
     let held = Awaited {
         number,
         wakes: wakes as u64,
@@ -101,20 +96,9 @@ impl SlotStream<SharedWaker> for Awaited {
     }
 }
 
-/// Counts a wake and makes it, so often.
-pub fn wake_often(post: &Post, waker: &SharedWaker, wakes: usize) {
-    for _ in 0..wakes {
-        post.woken.fetch_add(1, SeqCst);
-        waker.wake();
-    }
-}
-
 /// The waker that was left at the post, if one was.
 pub fn take_waker(post: &Post) -> Option<SharedWaker> {
-    match post.waker.try_lock() {
-        Some(mut place) => place.take(),
-        None => None,
-    }
+    post.waker.try_lock()?.take()
 }
 
 /// Starts a thread that wakes by this waker so often.
@@ -125,7 +109,7 @@ pub fn wake_by(
     wakes: usize,
 ) -> anyhow::Result<JoinHandle<()>> {
     let post = Arc::try_clone(post)?;
-    Ok(thread::spawn(rt, move || wake_often(&post, &waker, wakes))?)
+    Ok(thread::spawn(rt, move || wake_often(&post.woken, &waker, wakes))?)
 }
 
 /// The same by the waker that the future has left.

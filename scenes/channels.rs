@@ -1,13 +1,12 @@
 //! A channel from one sender on a thread, whose receiver is polled meanwhile.
 use crate::Host;
-use crate::slots::Slots;
-use crate::tasks::{drain, wait_for};
+use crate::polled::Polled;
+use crate::tasks::{drain, join_threads, wanted};
 use anyhow::bail;
-use futures::Stream;
-use futures::task::{Context, Poll};
+use futures::StreamExt;
+use futures::task::Poll;
 use futures::test::MockTask;
 use futures_buffered_core::ready_core::Taken;
-use futures_buffered_core::ready_shared::SharedReady;
 use futures_buffered_held::spsc::{Receiver, Sender, TrySendError, channel};
 use futures_buffered_unordered::merge_bounded::MergeBounded;
 use futures_buffered_unordered::slot_stream::SlotStream;
@@ -32,24 +31,16 @@ fn send_all(alloc: Global, mut sender: Sender<Item>, items: usize) -> Option<Sen
     Some(sender)
 }
 
-// The receiver of a channel, and the slots at which it is polled.
-#[derive(Drop)]
-struct Polled {
-    slots: Slots,
-    receiver: Receiver<Item>,
-}
-
 // A channel of so many places.
-fn open(alloc: Global, places: usize) -> anyhow::Result<(Sender<Item>, Polled)> {
-    let slots = Slots::new(alloc)?;
+fn open(alloc: Global, places: usize) -> anyhow::Result<(Sender<Item>, Polled<Receiver<Item>>)> {
     let (sender, receiver) = channel(alloc, places)?;
-    Ok((sender, Polled { slots, receiver }))
+    Ok((sender, Polled::new(alloc, receiver)?))
 }
 
-impl Polled {
+impl Polled<Receiver<Item>> {
     fn sleep_until_named(&mut self, rt: &impl Host, slot: usize) {
         for _ in rt.forever() {
-            if self.slots.source.take() == Taken::Slot(slot) {
+            if self.source.take() == Taken::Slot(slot) {
                 return;
             }
             yield_now();
@@ -61,7 +52,10 @@ impl Polled {
     fn receive(&mut self, rt: &impl Host, most: usize, moves: bool) -> anyhow::Result<usize> {
         let (mut came, mut slot) = (0usize, 0usize);
         for _ in rt.forever() {
-            match self.receiver.poll_next(self.slots.waker(slot)) {
+            if came == most {
+                break;
+            }
+            match self.receiver.poll_next(&self.wakers[slot]) {
                 Poll::Ready(Some(value)) if *value == came as u64 => came = came + 1,
                 Poll::Ready(Some(_)) => bail!("the items come in another order"),
                 Poll::Ready(None) => break,
@@ -71,19 +65,9 @@ impl Polled {
                     yield_now();
                 }
             }
-            if came == most {
-                break;
-            }
         }
         Ok(came)
     }
-}
-
-fn wanted(came: usize, items: usize) -> anyhow::Result<()> {
-    if came != items {
-        bail!("{came} of {items} items came");
-    }
-    Ok(())
 }
 
 /// So many items through so many places, then the sender goes: all come, in order, and then the end.
@@ -93,7 +77,7 @@ pub fn sender_goes(rt: &impl Host, places: usize, items: usize) -> anyhow::Resul
     let thread = thread::spawn(rt, move || drop(send_all(alloc, sender, items)))?;
     let came = polled.receive(rt, usize::MAX, false)?;
     thread.join(rt);
-    wanted(came, items)
+    wanted(came, &[items])
 }
 
 /// The same where the sender finishes, and what it left shows afterwards that nothing is to come.
@@ -109,8 +93,8 @@ pub fn sender_finishes(rt: &impl Host, places: usize, items: usize) -> anyhow::R
     let Some(mut finished) = thread.join(rt) else {
         bail!("the receiver is taken for gone");
     };
-    wanted(polled.receiver.compare_finished(&mut finished), 0)?;
-    wanted(came, items)
+    wanted(polled.receiver.compare_finished(&mut finished), &[0])?;
+    wanted(came, &[items])
 }
 
 // So many items to a receiver that takes them, while the sender stays. Returns both, if all came.
@@ -119,7 +103,7 @@ fn send_and_stay(
     places: usize,
     items: usize,
     moves: bool,
-) -> anyhow::Result<(Sender<Item>, Polled)> {
+) -> anyhow::Result<(Sender<Item>, Polled<Receiver<Item>>)> {
     let alloc = rt.alloc();
     let (sender, mut polled) = open(alloc, places)?;
     let thread = thread::spawn(rt, move || send_all(alloc, sender, items))?;
@@ -127,7 +111,7 @@ fn send_and_stay(
     let Some(sender) = thread.join(rt) else {
         bail!("the receiver is taken for gone");
     };
-    wanted(came, items)?;
+    wanted(came, &[items])?;
     Ok((sender, polled))
 }
 
@@ -140,15 +124,15 @@ pub fn sender_stays(
     moves: bool,
 ) -> anyhow::Result<()> {
     let (mut sender, mut polled) = send_and_stay(rt, places, items, moves)?;
-    wanted(polled.receiver.compare(&mut sender), 0)
+    wanted(polled.receiver.compare(&mut sender), &[0])
 }
 
 /// A poll waits for one item or finds it: the slot is marked once at most, by the sending or by the next one.
 pub fn marks_once(rt: &impl Host) -> anyhow::Result<()> {
     let (mut sender, mut polled) = send_and_stay(rt, 2, 1, false)?;
-    let is_marked = polled.slots.source.take() == Taken::Slot(0);
+    let is_marked = polled.source.take() == Taken::Slot(0);
     let _sent = sender.try_send(Box::new(rt.alloc(), 1u64)?).is_ok();
-    if is_marked && polled.slots.source.take() == Taken::Slot(0) {
+    if is_marked && polled.source.take() == Taken::Slot(0) {
         bail!("the slot is marked twice");
     }
     Ok(())
@@ -164,14 +148,10 @@ pub fn receiver_goes(
     let alloc = rt.alloc();
     let (sender, mut polled) = open(alloc, places)?;
     let thread = thread::spawn(rt, move || drop(send_all(alloc, sender, items)))?;
-    let came = if most == 0 {
-        0
-    } else {
-        polled.receive(rt, most, false)?
-    };
+    let came = polled.receive(rt, most, false)?;
     drop(polled.receiver);
     thread.join(rt);
-    wanted(came, most)
+    wanted(came, &[most])
 }
 
 /// The sender looks whether the receiver is gone, until it is; the receiver has polled and goes. Afterwards a sending
@@ -184,7 +164,7 @@ pub fn sender_looks(rt: &impl Host, places: usize) -> anyhow::Result<()> {
         (is_closed, sender.try_send(value).is_ok())
     };
     let thread = thread::spawn(rt, look_and_send)?;
-    let _came = polled.receiver.poll_next(polled.slots.waker(0)).is_ready();
+    let _came = polled.receiver.poll_next(&polled.wakers[0]).is_ready();
     drop(polled.receiver);
     let (is_closed, is_sent) = thread.join(rt);
     if is_closed && is_sent {
@@ -193,47 +173,24 @@ pub fn sender_looks(rt: &impl Host, places: usize) -> anyhow::Result<()> {
     Ok(())
 }
 
-// What a merge of channels gives, without the items.
-#[derive(Drop)]
-struct Counted {
-    merge: MergeBounded<Receiver<Item>, SharedReady>,
-}
-
-impl Stream for Counted {
-    type Item = usize;
-
-    fn poll_next(&mut self, cx: &mut Context<'_>) -> Poll<Option<usize>> {
-        match self.merge.poll_next(cx) {
-            Poll::Ready(Some(_)) => Poll::Ready(Some(0)),
-            Poll::Ready(None) => Poll::Ready(None),
-            Poll::Pending => Poll::Pending,
-        }
+/// So many channels in a merge that a task polls, while each sender sends and goes: all items of each come.
+pub fn merged(rt: &impl Host, channels: usize, places: usize, items: usize) -> anyhow::Result<()> {
+    let alloc = rt.alloc();
+    let task = MockTask::new(rt)?;
+    let (mut senders, mut receivers) = (Vec::new(alloc), Vec::new(alloc));
+    for _ in 0..channels {
+        let (sender, receiver) = channel::<Item>(alloc, places)?;
+        let _ = senders.push(sender);
+        let _ = receivers.push(receiver);
     }
-}
-
-/// Two channels in a merge that a task polls: all items of both come.
-pub fn merged(rt: &impl Host, places: usize, items: usize) -> anyhow::Result<()> {
-    let alloc = rt.alloc();
-    let task = MockTask::new(rt)?;
-    let (one, first) = channel::<Item>(alloc, places)?;
-    let (other, second) = channel::<Item>(alloc, places)?;
-    let merge = MergeBounded::over(&(), alloc, [first, second])?;
-    let one = thread::spawn(rt, move || drop(send_all(alloc, one, items)))?;
-    let other = thread::spawn(rt, move || drop(send_all(alloc, other, items)))?;
-    let came = drain(rt, &task, &mut Counted { merge });
-    one.join(rt);
-    other.join(rt);
-    wanted(came, if items == 1 { 11 } else { 1111 })
-}
-
-/// A channel in a merge that a task polls, while the sender sends and goes.
-pub fn merged_alone(rt: &impl Host, places: usize, items: usize) -> anyhow::Result<()> {
-    let alloc = rt.alloc();
-    let task = MockTask::new(rt)?;
-    let (one, first) = channel::<Item>(alloc, places)?;
-    let merge = MergeBounded::over(&(), alloc, [first])?;
-    let one = thread::spawn(rt, move || drop(send_all(alloc, one, items)))?;
-    let came = drain(rt, &task, &mut Counted { merge });
-    one.join(rt);
-    wanted(came, if items == 1 { 1 } else { 11 })
+    let merge = MergeBounded::from_iter(alloc, receivers)?;
+    let mut threads = Vec::new(alloc);
+    for sender in senders {
+        let send = move || drop(send_all(alloc, sender, items));
+        let _ = threads.push(thread::spawn(rt, send)?);
+    }
+    // Each item is a digit 1.
+    let came = drain(rt, &task, &mut merge.map(|_item| 0usize));
+    join_threads(rt, threads);
+    wanted(came, &[10usize.pow((channels * items) as u32) / 9])
 }

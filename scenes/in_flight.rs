@@ -1,77 +1,93 @@
 //! Futures of the kit in flight that threads complete.
 use crate::Host;
-use crate::numbers::{Number, each_came, join_threads, number_to_come, send_from_thread, wanted};
-use crate::tasks::drain;
-use futures::Stream;
+use crate::tasks::{drain, each_came, join_threads, wanted};
+use futures::channel::oneshot::{Receiver, channel};
 use futures::task::Poll;
 use futures::test::MockTask;
-use futures_buffered::in_flight::FuturesUnorderedBounded;
-use std::thread::JoinHandle;
+use futures::{Stream, StreamExt};
+use futures_buffered::in_flight::{FuturesUnorderedBounded, Key};
+use std::thread::{self, JoinHandle};
 
-// A set of so many, none of which was polled, and the threads that send their numbers.
-fn begin(
-    rt: &impl Host,
-    count: usize,
-) -> anyhow::Result<(FuturesUnorderedBounded<Number>, Vec<JoinHandle<()>>)> {
-    let mut set = FuturesUnorderedBounded::new(rt.alloc(), count)?;
-    let mut threads: Vec<JoinHandle<()>> = Vec::new(rt.alloc());
-    for place in 0..count {
-        let (sender, number) = number_to_come(rt.alloc())?;
-        let _key = set.try_push(number).ok();
-        let _ = threads.push(send_from_thread(rt, sender, place)?);
+// A set of numbers to come, which a task polls, the key of the first of them, and the threads that send them.
+#[derive(Drop)]
+struct Begun {
+    task: MockTask,
+    set: FuturesUnorderedBounded<Receiver<usize>>,
+    first: Option<Key>,
+    threads: Vec<JoinHandle<()>>,
+}
+
+impl Begun {
+    // A set of these, none of which was polled.
+    fn new(rt: &impl Host, numbers: &[usize]) -> anyhow::Result<Begun> {
+        let mut begun = Begun {
+            task: MockTask::new(rt)?,
+            set: FuturesUnorderedBounded::new(rt.alloc(), numbers.len())?,
+            first: None,
+            threads: Vec::new(rt.alloc()),
+        };
+        for &number in numbers {
+            begun.send(rt, number)?;
+        }
+        Ok(begun)
     }
-    Ok((set, threads))
+
+    // Puts one more into the set, and starts the thread that sends it.
+    fn send(&mut self, rt: &impl Host, number: usize) -> anyhow::Result<()> {
+        let (sender, receiver) = channel(rt.alloc())?;
+        let key = self.set.try_push(receiver).ok();
+        self.first = self.first.or(key);
+        let send = move || {
+            let _ = sender.send(number);
+        };
+        let _ = self.threads.push(thread::spawn(rt, send)?);
+        Ok(())
+    }
+
+    // So many polls. Returns the sum of what came, one more than the number of each.
+    fn poll_often(&mut self, polls: usize) -> usize {
+        let (task, set) = (&self.task, &mut self.set);
+        let mut came = 0usize;
+        for _ in 0..polls {
+            if let Poll::Ready(Some(number)) = task.enter(|cx| set.poll_next(cx)) {
+                came = came + number.unwrap_or(8) + 1;
+            }
+        }
+        came
+    }
+
+    // The task polls until the set has ended. A number whose sender is gone is 8.
+    fn finish(self, rt: &impl Host) -> usize {
+        let mut numbers = self.set.map(|number| number.unwrap_or(8));
+        let came = drain(rt, &self.task, &mut numbers);
+        join_threads(rt, self.threads);
+        came
+    }
 }
 
 /// A thread for each future sends its number, while a task polls the set until it ends: each comes once.
 pub fn polled(rt: &impl Host, count: usize) -> anyhow::Result<()> {
-    let task = MockTask::new(rt)?;
-    let (mut set, threads) = begin(rt, count)?;
-    let came = drain(rt, &task, &mut set);
-    join_threads(rt, threads);
-    each_came(count, came, false)
+    let begun = Begun::new(rt, &[0, 1][..count])?;
+    each_came(count, begun.finish(rt), false)
 }
 
 /// The set is cleared after so many polls, while the sendings are under way, and a future more is put in: of that alone
 /// an output comes.
 pub fn cleared(rt: &impl Host, count: usize, polls: usize) -> anyhow::Result<()> {
-    let task = MockTask::new(rt)?;
-    let (mut set, threads) = begin(rt, count)?;
-    for _ in 0..polls {
-        let _came = task.enter(|cx| set.poll_next(cx)).is_ready();
-    }
-    set.clear();
-    let (sender, number) = number_to_come(rt.alloc())?;
-    let _key = set.try_push(number).ok();
-    let last = send_from_thread(rt, sender, 4)?;
-    let came = drain(rt, &task, &mut set);
-    join_threads(rt, threads);
-    last.join(rt);
-    wanted(came, 5, 5)
+    let mut begun = Begun::new(rt, &[0, 1][..count])?;
+    begun.poll_often(polls);
+    begun.set.clear();
+    begun.send(rt, 4)?;
+    wanted(begun.finish(rt), &[5])
 }
 
 /// One of two is cancelled after so many polls, while both sendings are under way: it comes before that or not at all,
 /// and the other comes once.
 pub fn cancelled(rt: &impl Host, polls: usize) -> anyhow::Result<()> {
-    let task = MockTask::new(rt)?;
-    let mut set = FuturesUnorderedBounded::new(rt.alloc(), 2)?;
-    let (first, number) = number_to_come(rt.alloc())?;
-    let key = set.try_push(number).ok();
-    let (second, number) = number_to_come(rt.alloc())?;
-    let _key = set.try_push(number).ok();
-    let first = send_from_thread(rt, first, 0)?;
-    let second = send_from_thread(rt, second, 4)?;
-    let mut before = 0usize;
-    for _ in 0..polls {
-        if let Poll::Ready(Some(number)) = task.enter(|cx| set.poll_next(cx)) {
-            before = before + number + 1;
-        }
+    let mut begun = Begun::new(rt, &[0, 4])?;
+    let before = begun.poll_often(polls);
+    if let Some(first) = begun.first {
+        let _tag = begun.set.cancel(first);
     }
-    if let Some(key) = key {
-        let _tag = set.cancel(key);
-    }
-    let after = drain(rt, &task, &mut set);
-    first.join(rt);
-    second.join(rt);
-    wanted(before + after, 5, 6)
+    wanted(before + begun.finish(rt), &[5, 6])
 }

@@ -1,45 +1,15 @@
 //! Joins whose futures threads wake.
 use crate::Host;
-use crate::awaited::{Awaited, Post, several, wake_all};
-use crate::numbers::join_threads;
-use crate::tasks::wait_for;
+use crate::awaited::{Post, several, wake_all};
+use crate::tasks::{join_threads, wait_for};
 use anyhow::bail;
 use futures::Future;
 use futures::task::Poll;
 use futures::test::MockTask;
-use futures_buffered::SlotFuture;
-use futures_buffered_core::ready_shared::SharedWaker;
+use futures_buffered_held::future::map;
 use futures_buffered_joins::join::join_all;
 use futures_buffered_joins::try_join::try_join_all;
-use std::alloc::Global;
 use std::sync::Arc;
-
-// Fails with its number where that is the one to fail.
-#[derive(Drop)]
-struct Attempt {
-    future: Awaited,
-    fails: usize,
-}
-
-impl SlotFuture<SharedWaker> for Attempt {
-    type Output = Result<usize, usize>;
-
-    fn poll(&mut self, waker: &SharedWaker) -> Poll<Result<usize, usize>> {
-        match self.future.poll(waker) {
-            Poll::Ready(number) if number == self.fails => Poll::Ready(Err(number)),
-            Poll::Ready(number) => Poll::Ready(Ok(number)),
-            Poll::Pending => Poll::Pending,
-        }
-    }
-}
-
-fn attempts(alloc: Global, futures: Vec<Awaited>, fails: usize) -> Vec<Attempt> {
-    let mut attempts: Vec<Attempt> = Vec::new(alloc);
-    for future in futures {
-        let _ = attempts.push(Attempt { future, fails });
-    }
-    attempts
-}
 
 // The first poll, threads that wake the futures, and polls until the join is done.
 fn complete<F: Future<Output: Drop>>(
@@ -80,9 +50,14 @@ pub fn join(rt: &impl Host, count: usize, wakes: usize) -> anyhow::Result<()> {
 pub fn try_join(rt: &impl Host, count: usize, fails: usize) -> anyhow::Result<()> {
     let task = MockTask::new(rt)?;
     let (held, posts) = several(rt.alloc(), count, 1)?;
-    let mut join = try_join_all(rt.alloc(), attempts(rt.alloc(), held, fails))?;
-    let answer = complete(rt, &task, &mut join, &posts, 1)?;
-    match answer {
+    let attempt = move |number: usize| if number == fails {
+        Err(number)
+    } else {
+        Ok(number)
+    };
+    let attempts = held.into_iter().map(move |future| map(future, attempt));
+    let mut join = try_join_all(rt.alloc(), attempts)?;
+    match complete(rt, &task, &mut join, &posts, 1)? {
         Ok(outputs) if fails >= count && outputs.len() == count => Ok(()),
         Err(number) if number == fails && fails < count => Ok(()),
         _ => bail!("another answer"),

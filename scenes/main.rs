@@ -11,11 +11,10 @@ mod held;
 mod holders;
 mod in_flight;
 mod joins;
-mod numbers;
 mod one_shots;
 mod outer;
+mod polled;
 mod ready_list;
-mod slots;
 mod tally;
 mod tasks;
 
@@ -34,14 +33,7 @@ pub trait Host: Threads + Wait + RandomSource + AllocGlobal {}
 impl<R: Threads + Wait + RandomSource + AllocGlobal> Host for R {}
 
 // The scene, its kind where it is one of sets and their like, and its numbers.
-#[derive(Drop)]
-struct Asked {
-    scene: String,
-    kind: String,
-    numbers: [usize; 3],
-}
-
-fn read_words(rt: &(impl Env + AllocGlobal)) -> anyhow::Result<Asked> {
+fn read_words(rt: &(impl Env + AllocGlobal)) -> anyhow::Result<(String, String, [usize; 3])> {
     let mut words = env::args(rt)?;
     words.next();
     let Some(scene) = words.next() else {
@@ -58,16 +50,12 @@ fn read_words(rt: &(impl Env + AllocGlobal)) -> anyhow::Result<Asked> {
             _ => kind = word,
         }
     }
-    Ok(Asked {
-        scene,
-        kind,
-        numbers,
-    })
+    Ok((scene, kind, numbers))
 }
 
-fn held_scene<H: Holder>(rt: &impl Host, asked: &Asked) -> anyhow::Result<()> {
-    let [a, b, c] = asked.numbers;
-    match asked.scene.as_str() {
+fn held_scene<H: Holder>(rt: &impl Host, scene: &str, numbers: [usize; 3]) -> anyhow::Result<()> {
+    let [a, b, c] = numbers;
+    match scene {
         "polled" => held::polled::<H>(rt, a, b, c),
         "blocked" => held::blocked::<H>(rt, a, b),
         "moved" => held::moved::<H>(rt, a, b),
@@ -80,9 +68,9 @@ fn held_scene<H: Holder>(rt: &impl Host, asked: &Asked) -> anyhow::Result<()> {
     }
 }
 
-fn scene(rt: &impl Host, asked: &Asked) -> anyhow::Result<()> {
-    let [a, b, c] = asked.numbers;
-    match asked.scene.as_str() {
+fn other_scene(rt: &impl Host, scene: &str, numbers: [usize; 3]) -> anyhow::Result<()> {
+    let [a, b, c] = numbers;
+    match scene {
         "list_wakes" => ready_list::wakes(rt, a, b, c),
         "list_outer_wakers" => ready_list::outer_wakers(rt, a),
         "list_seats" => ready_list::seats(rt, a),
@@ -105,8 +93,8 @@ fn scene(rt: &impl Host, asked: &Asked) -> anyhow::Result<()> {
         "channel_marks_once" => channels::marks_once(rt),
         "channel_receiver_goes" => channels::receiver_goes(rt, a, b, c),
         "channel_sender_looks" => channels::sender_looks(rt, a),
-        "channel_merged" => channels::merged_alone(rt, a, b),
-        "channels_merged" => channels::merged(rt, a, b),
+        "channel_merged" => channels::merged(rt, 1, a, b),
+        "channels_merged" => channels::merged(rt, 2, a, b),
         "in_flight_polled" => in_flight::polled(rt, a),
         "in_flight_cleared" => in_flight::cleared(rt, a, b),
         "in_flight_cancelled" => in_flight::cancelled(rt, a),
@@ -115,15 +103,16 @@ fn scene(rt: &impl Host, asked: &Asked) -> anyhow::Result<()> {
 }
 
 fn main(rt: HostRuntime) -> anyhow::Result<()> {
-    let asked = read_words(&rt)?;
-    match asked.kind.as_str() {
-        "" => scene(&rt, &asked),
-        "set" => held_scene::<Set>(&rt, &asked),
-        "growing_set" => held_scene::<GrowingSet>(&rt, &asked),
-        "queue" => held_scene::<Queue>(&rt, &asked),
-        "growing_queue" => held_scene::<GrowingQueue>(&rt, &asked),
-        "merge" => held_scene::<Merge>(&rt, &asked),
-        "growing_merge" => held_scene::<GrowingMerge>(&rt, &asked),
+    let (scene, kind, numbers) = read_words(&rt)?;
+    let scene = scene.as_str();
+    match kind.as_str() {
+        "" => other_scene(&rt, scene, numbers),
+        "set" => held_scene::<Set>(&rt, scene, numbers),
+        "growing_set" => held_scene::<GrowingSet>(&rt, scene, numbers),
+        "queue" => held_scene::<Queue>(&rt, scene, numbers),
+        "growing_queue" => held_scene::<GrowingQueue>(&rt, scene, numbers),
+        "merge" => held_scene::<Merge>(&rt, scene, numbers),
+        "growing_merge" => held_scene::<GrowingMerge>(&rt, scene, numbers),
         _ => bail!("there is no such kind"),
     }
 }

@@ -1,6 +1,6 @@
 //! A one-shot whose sender is on a thread, and whose receiver is polled meanwhile.
 use crate::Host;
-use crate::slots::Slots;
+use crate::polled::Polled;
 use anyhow::bail;
 use futures::task::Poll;
 use futures_buffered::SlotFuture;
@@ -10,49 +10,32 @@ use std::thread::{self, JoinHandle};
 
 const VALUE: u64 = 7;
 
-type Answer = Result<Box<u64>, Canceled>;
+type Item = Box<u64>;
 
-// The receiver, and the slots at which it is polled.
-#[derive(Drop)]
-struct Polled {
-    slots: Slots,
-    receiver: Receiver<Box<u64>>,
-}
+type Answer = Result<Item, Canceled>;
 
 // The sender, what it is to send, and the receiver.
-fn open(rt: &impl Host) -> anyhow::Result<(Sender<Box<u64>>, Box<u64>, Polled)> {
-    let slots = Slots::new(rt.alloc())?;
+fn open(rt: &impl Host) -> anyhow::Result<(Sender<Item>, Item, Polled<Receiver<Item>>)> {
     let (sender, receiver) = channel(rt.alloc())?;
     let value = Box::new(rt.alloc(), VALUE)?;
-    Ok((sender, value, Polled { slots, receiver }))
+    Ok((sender, value, Polled::new(rt.alloc(), receiver)?))
 }
 
-impl Polled {
+impl Polled<Receiver<Item>> {
     // So many polls, the last of them with the waker of slot `last`, and those before with that of slot 0. Returns the
     // answer, if one came.
     fn poll_often(&mut self, polls: usize, last: usize) -> Option<Answer> {
         for poll in 0..polls {
             let slot = if poll + 1 == polls { last } else { 0 };
-            if let Poll::Ready(answer) = self.receiver.poll(self.slots.waker(slot)) {
+            if let Poll::Ready(answer) = self.receiver.poll(&self.wakers[slot]) {
                 return Some(answer);
             }
         }
         None
     }
 
-    // Once the sender is done: the slot of the last poll was woken if there was one, and the answer is there.
-    fn answer_after(&mut self, polls: usize, last: usize) -> anyhow::Result<Answer> {
-        let (first, second) = (self.slots.source.take(), self.slots.source.take());
-        if polls > 0 && first != Taken::Slot(last) && second != Taken::Slot(last) {
-            bail!("no wake of the slot of the last poll");
-        }
-        match self.receiver.poll(self.slots.waker(last)) {
-            Poll::Ready(answer) => Ok(answer),
-            Poll::Pending => bail!("the sender is done, and no answer came"),
-        }
-    }
-
-    // Polls while the sender acts on its thread, and afterwards. Returns the answer, and what the thread gives.
+    // Polls while the sender acts on its thread, and afterwards: by then the slot of the last poll was woken if there was
+    // one, and the answer is there. Returns the answer, and what the thread gives.
     fn receive<T: Drop>(
         &mut self,
         rt: &impl Host,
@@ -62,18 +45,22 @@ impl Polled {
     ) -> anyhow::Result<(Answer, T)> {
         let answer = self.poll_often(polls, last);
         let given = thread.join(rt);
-        match answer {
-            Some(answer) => Ok((answer, given)),
-            None => Ok((self.answer_after(polls, last)?, given)),
+        if let Some(answer) = answer {
+            return Ok((answer, given));
+        }
+        let (first, second) = (self.source.take(), self.source.take());
+        if polls > 0 && first != Taken::Slot(last) && second != Taken::Slot(last) {
+            bail!("no wake of the slot of the last poll");
+        }
+        match self.receiver.poll(&self.wakers[last]) {
+            Poll::Ready(answer) => Ok((answer, given)),
+            Poll::Pending => bail!("the sender is done, and no answer came"),
         }
     }
 }
 
 fn is_value(answer: &Answer) -> bool {
-    match answer {
-        Ok(value) => **value == VALUE,
-        Err(_) => false,
-    }
+    matches!(answer, Ok(value) if **value == VALUE)
 }
 
 /// The sender sends while the receiver is polled, the last time with the waker of slot `last`: the value comes, and

@@ -6,19 +6,13 @@ use std::sync::Arc;
 use std::sync::atomic::AtomicU64;
 use std::sync::atomic::Ordering::SeqCst;
 
-/// Where somebody sleeps until a call of it.
+/// Where somebody sleeps until a wake, and what wakes it.
 #[derive(Drop)]
 pub struct Bed {
     called: Arc<AtomicU64>,
 }
 
-/// Calls a sleeper, once.
-#[derive(Drop)]
-pub struct Caller {
-    called: Arc<AtomicU64>,
-}
-
-impl OuterWaker for Caller {
+impl OuterWaker for Bed {
     fn wake_outer(self) {
         self.called.store(1, SeqCst);
         self.called.wake_all();
@@ -31,12 +25,12 @@ impl Bed {
         Ok(Bed { called })
     }
 
-    pub fn caller(&self) -> Result<Caller, AllocError> {
+    pub fn waker(&self) -> Result<Bed, AllocError> {
         let called = Arc::try_clone(&self.called)?;
-        Ok(Caller { called })
+        Ok(Bed { called })
     }
 
-    /// Sleeps until there was a call since the last sleep.
+    /// Sleeps until there was a wake since the last sleep.
     pub fn sleep(&self, rt: &impl Host) {
         for _ in rt.forever() {
             if self.called.load(SeqCst) != 0 {

@@ -1,8 +1,8 @@
 //! The ready list, and the place of the task's waker, without a task.
 use crate::Host;
-use crate::numbers::join_threads;
-use crate::outer::{Bed, Caller};
+use crate::outer::Bed;
 use crate::tally::Tally;
+use crate::tasks::join_threads;
 use anyhow::bail;
 use futures_buffered_core::ready_core::{Taken, Woke};
 use futures_buffered_core::ready_shared::SharedReady;
@@ -15,7 +15,7 @@ use std::thread::{self, JoinHandle, yield_now};
 /// to know of the last wake of each slot.
 pub fn wakes(rt: &impl Host, slots: usize, threads: usize, wakes: usize) -> anyhow::Result<()> {
     let alloc = rt.alloc();
-    let mut source: SharedReady<Caller> = SharedReady::new(alloc, slots)?;
+    let mut source: SharedReady<Bed> = SharedReady::new(alloc, slots)?;
     let bed = Bed::new(alloc)?;
     let mut tally = Tally::new(alloc, slots)?;
     let mut started: Vec<JoinHandle<()>> = Vec::new(alloc);
@@ -30,12 +30,12 @@ pub fn wakes(rt: &impl Host, slots: usize, threads: usize, wakes: usize) -> anyh
 
 fn take_until_known(
     rt: &impl Host,
-    source: &mut SharedReady<Caller>,
+    source: &mut SharedReady<Bed>,
     bed: &Bed,
     tally: &mut Tally,
 ) -> anyhow::Result<()> {
     for _ in rt.forever() {
-        source.set_outer(bed.caller()?);
+        source.set_outer(bed.waker()?);
         let paused = tally.take_all(source, 0);
         if tally.knows_all() {
             break;
@@ -51,10 +51,10 @@ fn take_until_known(
 /// One outer waker is kept, and another is put in its place while wakes are under way: the other is woken.
 pub fn outer_wakers(rt: &impl Host, wakes: usize) -> anyhow::Result<()> {
     let alloc = rt.alloc();
-    let mut source: SharedReady<Caller> = SharedReady::new(alloc, 1)?;
+    let mut source: SharedReady<Bed> = SharedReady::new(alloc, 1)?;
     let (before, bed) = (Bed::new(alloc)?, Bed::new(alloc)?);
     let mut tally = Tally::new(alloc, 1)?;
-    source.set_outer(before.caller()?);
+    source.set_outer(before.waker()?);
     tally.take_all(&mut source, 0);
     let thread = tally.start(rt, &source, 0, 0, wakes)?;
     take_until_known(rt, &mut source, &bed, &mut tally)?;
@@ -66,9 +66,7 @@ pub fn outer_wakers(rt: &impl Host, wakes: usize) -> anyhow::Result<()> {
 fn wake_both(list: &ReadyList, mut seat: WakeSeat, first: usize) -> (WakeSeat, usize) {
     let mut fresh = 0usize;
     for slot in [first, 1 - first] {
-        if list.wake(&mut seat, slot) == Woke::Fresh {
-            fresh = fresh + 1;
-        }
+        fresh = fresh + usize::from(list.wake(&mut seat, slot) == Woke::Fresh);
     }
     (seat, fresh)
 }
@@ -78,9 +76,7 @@ fn wake_both(list: &ReadyList, mut seat: WakeSeat, first: usize) -> (WakeSeat, u
 fn take_often(list: &ReadyList, poll: &mut PollSeat, takings: usize) -> usize {
     let mut named = 0usize;
     for _ in 0..takings {
-        if let Taken::Slot(_) = list.take(poll) {
-            named = named + 1;
-        }
+        named = named + usize::from(matches!(list.take(poll), Taken::Slot(_)));
     }
     named
 }

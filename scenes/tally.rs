@@ -65,19 +65,9 @@ impl Tally {
         Ok(thread::spawn(rt, move || wake_often(&woken, &waker, wakes))?)
     }
 
-    /// The slot is named.
-    pub fn note(&mut self, slot: usize) {
-        self.slots[slot].known = self.slots[slot].woken.load(SeqCst);
-    }
-
     /// Whether each slot was named since its last wake.
     pub fn knows_all(&self) -> bool {
-        for slot in self.slots.iter() {
-            if slot.known != slot.wanted {
-                return false;
-            }
-        }
-        true
+        self.slots.iter().all(|slot| slot.known == slot.wanted)
     }
 
     /// Takes until nothing is named, where the source's first slot is the one after `before`. Returns whether it
@@ -85,7 +75,10 @@ impl Tally {
     pub fn take_all<O: OuterWaker>(&mut self, source: &mut SharedReady<O>, before: usize) -> bool {
         for _ in 0..u64::MAX {
             match source.take() {
-                Taken::Slot(slot) => self.note(before + slot),
+                Taken::Slot(slot) => {
+                    let named = &mut self.slots[before + slot];
+                    named.known = named.woken.load(SeqCst);
+                }
                 Taken::Empty => return false,
                 Taken::Pause => return true,
             }

@@ -1,6 +1,5 @@
 //! A source that a task polls by hand.
 use crate::Host;
-use crate::numbers::join_threads;
 use crate::tally::{Tally, wake_often};
 use anyhow::bail;
 use futures::Stream;
@@ -33,6 +32,29 @@ pub fn drain<St: Stream<Item = usize>>(rt: &impl Host, task: &MockTask, stream: 
         }
     }
     came
+}
+
+pub fn join_threads(rt: &impl Host, threads: Vec<JoinHandle<()>>) {
+    for thread in threads {
+        thread.join(rt);
+    }
+}
+
+/// One of these numbers came.
+pub fn wanted(came: usize, any_of: &[usize]) -> anyhow::Result<()> {
+    if !any_of.contains(&came) {
+        bail!("{came} came");
+    }
+    Ok(())
+}
+
+/// Each of one or two numbers came once, in order if there is one.
+pub fn each_came(count: usize, came: usize, is_ordered: bool) -> anyhow::Result<()> {
+    match count {
+        1 => wanted(came, &[1]),
+        2 => wanted(came, &[12, if is_ordered { 12 } else { 21 }]),
+        _ => bail!("{count} are too many"),
+    }
 }
 
 // One poll: it registers with the first source, and takes from each until nothing is named. Returns whether it paused.

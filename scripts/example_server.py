@@ -81,7 +81,7 @@ class Server:
 
     async def close(self):
         self.listening.close()
-        left = [task for task in asyncio.all_tasks() if task is not asyncio.current_task()]
+        left = asyncio.all_tasks() - {asyncio.current_task()}
         for task in left:
             task.cancel()
         await asyncio.gather(*left, return_exceptions=True)
@@ -112,28 +112,19 @@ class Server:
         else:
             found = answer_to(path, self.asked[path])
             self.asked[path] += 1
-            self.answer(found, writer, await self.hold(path, found, reader))
+            is_gone = await self.hold(reader, random.Random(path).uniform(LEAST, MOST) if found else PATIENCE)
+            self.given_up += is_gone
+            if found and not is_gone:
+                send(writer, *found)
+                self.answered += 1
         await writer.drain()
 
-    async def hold(self, path, found, reader):
-        """Has a request in hand as long as it takes, and says whether the other end is still there."""
+    async def hold(self, reader, seconds):
+        """Has a request in hand so long, or until the other end closes the connection, and says whether it did."""
         self.in_hand += 1
-        try:
-            seconds = random.Random(path).uniform(LEAST, MOST) if found else PATIENCE
-            return not await self.is_gone(reader, seconds)
-        finally:
-            self.in_hand -= 1
-
-    def answer(self, found, writer, is_there):
-        if found and is_there:
-            send(writer, *found)
-            self.answered += 1
-        else:
-            self.given_up += not is_there
-
-    async def is_gone(self, reader, seconds):
-        """Waits so long, or until the other end closes the connection, and says whether it did."""
         try:
             return not await asyncio.wait_for(reader.read(1), seconds)
         except asyncio.TimeoutError:
             return False
+        finally:
+            self.in_hand -= 1

@@ -62,11 +62,9 @@ static long other_threads(void) {
 __attribute__((destructor)) static void report(void) {
     const char *file = getenv("MEMORY_REPORT");
     int descriptor = file ? open(file, O_WRONLY | O_CREAT | O_TRUNC, 0644) : -1;
-    char line[64];
     long threads = other_threads();
-    int length = snprintf(line, sizeof line, "%ld %ld %ld\n", atomic_load(&refused), threads, atomic_load(&blocks));
-    if (descriptor >= 0 && write(descriptor, line, length) == length) {
-        close(descriptor);
+    if (descriptor >= 0) {
+        dprintf(descriptor, "%ld %ld %ld\n", atomic_load(&refused), threads, atomic_load(&blocks));
     }
 }
 

@@ -83,6 +83,23 @@ def run(words, folder=None):
     return subprocess.run(words, cwd=folder, stdin=subprocess.DEVNULL, capture_output=True, text=True, errors="replace")
 
 
+def bodies_in(table):
+    """The wrong bodies of a file: the name of each, and its other lines."""
+    head, *texts = re.split(r"^name: ", table.read_text(encoding="utf-8"), flags=re.M)
+    for name, _, lines in (text.strip("\n").partition("\n") for text in texts):
+        if re.search(r"^[^#\n]", head, re.M) or "\n\n" in lines:
+            sys.exit(f"{table}: a paragraph before or after {name} has no name")
+        yield name, lines + "\n"
+
+
+def edits_in(text):
+    """The edits of a wrong body: the file of each, the text that it looks for, and the text that takes its place. A line that begins with a blank
+    belongs to the text above it."""
+    for part in re.split(r"^file: ", text, flags=re.M)[1:]:
+        for old, new in re.findall(r"^old: (.*(?:\n .*)*)\nnew:(?: (.*(?:\n .*)*))?$", part, re.M):
+            yield part.partition("\n")[0], old, new
+
+
 def copy_libraries(room):
     """Copies the libraries into another repository."""
     copied = run([sys.executable, ROOT / "scripts" / "copy_crates", room])
@@ -101,6 +118,13 @@ def add_crate(room, name, uses, sources):
     for source in sources:
         shutil.copy(source, folder / "src" / f"{source.stem}.rt")
     return folder
+
+
+def lay_out_program(room, name, folder):
+    """Makes a user's repository: the libraries, and the sources of this folder as a crate over those of its file `uses`. Returns the crate."""
+    copy_libraries(room)
+    shutil.copy(ROOT / "HANDLES", room)
+    return add_crate(room, name, (folder / "uses").read_text(encoding="utf-8").strip(), folder.glob("*.rs"))
 
 
 if __name__ == "__main__":

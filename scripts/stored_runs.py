@@ -5,7 +5,6 @@ import os
 import pathlib
 import re
 import resource
-import select
 import shlex
 import subprocess
 import sys
@@ -56,12 +55,6 @@ SETTINGS = ("words", "from", "limit", "to", "output", "errors", "status", "cut")
 def bytes_in(lines):
     """What lines of a case stand for, each with a line feed: a letter is one byte, and `\\x0d` is the byte of that number."""
     return b"".join(line.encode("ascii").decode("unicode_escape").encode("latin-1") + b"\n" for line in lines)
-
-
-def limits_in(limits):
-    """What is limited, each as `as 8388608` for RLIMIT_AS."""
-    pairs = (limit.split() for limit in limits)
-    return tuple((getattr(resource, f"RLIMIT_{what.upper()}"), int(most)) for what, most in pairs)
 
 
 def values_in(text):
@@ -120,10 +113,11 @@ def runs_of_fbuf():
         script, replies = made_by(rows)
         given = pathlib.Path(*case["from"]) if case["from"] else script[: len(script) - sum(map(int, case["cut"]))]
         wanted = Ended(sum(map(int, case["status"])), replies + bytes_in(case["output"]), bytes_in(case["errors"]))
+        # What is limited, each as `as 8388608` for RLIMIT_AS.
+        limits = tuple((getattr(resource, f"RLIMIT_{what.upper()}"), int(most)) for what, most in map(str.split, case["limit"]))
         for words in case["words"] or [""]:
             call = shlex.split(bytes_in([words]).decode(errors="surrogateescape"))
-            to, limits = tuple(case["to"]), limits_in(case["limit"])
-            yield StoredRun(f"{name} {words}".strip(), "fbuf", tuple(call), given, SCRIPTS, to, wanted, limits)
+            yield StoredRun(f"{name} {words}".strip(), "fbuf", tuple(call), given, SCRIPTS, tuple(case["to"]), wanted, limits)
 
 
 def run_of_crate(name):
@@ -134,11 +128,6 @@ def run_of_crate(name):
     data = next(path for path in (folder / "data", folder) if path.exists())
     wanted = Ended(int(bytes_of(folder / "status") or b"0"), bytes_of(folder / "stdout"), b"")
     return StoredRun(name, name, words, given, data, (), wanted)
-
-
-def has_many_items(run):
-    """Whether this is a file of calls of many items."""
-    return run.name.endswith("_sizes.calls")
 
 
 def runs_of_calls():
@@ -167,17 +156,9 @@ def built(name, ending=""):
     return found
 
 
-def opened(place):
-    """A descriptor that writes to the place: a file, or, if it is `closed`, a pipe without a reader."""
-    if place != "closed":
-        return os.open(place, os.O_WRONLY)
-    reader, writer = os.pipe()
-    os.close(reader)
-    # A process that another thread starts has the reader too, until it begins its program.
-    without_reader = select.poll()
-    without_reader.register(writer, 0)
-    without_reader.poll()
-    return writer
+# A pipe without a reader. It is made before there is a second thread: a process that is forked meanwhile would hold its reader up to its exec.
+reader, CLOSED = os.pipe()
+os.close(reader)
 
 
 def holding(text):
@@ -191,7 +172,7 @@ def holding(text):
 def end_of(run, program, environment=None):
     """Runs the program, in an environment of its own, and says how it ended."""
     given = os.open(run.given, os.O_RDONLY) if isinstance(run.given, pathlib.Path) else holding(run.given)
-    places = [opened(place) for place in run.to]
+    places = [os.dup(CLOSED) if place == "closed" else os.open(place, os.O_WRONLY) for place in run.to]
     output, errors = [*places, subprocess.PIPE, subprocess.PIPE][:2]
     words = [os.path.abspath(program), *run.words]
     how = {"stdin": given, "stdout": output, "stderr": errors, "cwd": run.folder, "env": environment or {}}
@@ -207,21 +188,16 @@ def end_of(run, program, environment=None):
             os.close(descriptor)
 
 
-def first_difference(wanted, found):
-    """The number of the first line that differs, with both texts."""
-    pairs = itertools.zip_longest(wanted.splitlines(True), found.splitlines(True), fillvalue=b"")
-    number, (one, other) = next((at, pair) for at, pair in enumerate(pairs, 1) if pair[0] != pair[1])
-    one, other = (text[:80].decode(errors="replace") for text in (one, other))
-    return f"line {number} is {other!r}, and not {one!r}"
-
-
 def faults_of(wanted, found):
-    """What differs from what is wanted."""
+    """What differs from what is wanted: the status, and the first line of the output and of the errors that does."""
     if found.status is None:
         yield "it had not ended in time"
     elif found.status != wanted.status:
         yield f"status {found.status}, and not {wanted.status}"
     for what in ("output", "errors"):
-        one, other = getattr(wanted, what), getattr(found, what)
-        if one != other:
-            yield f"{what}: {first_difference(one, other)}"
+        texts = (getattr(one, what).splitlines(True) for one in (wanted, found))
+        for number, (one, other) in enumerate(itertools.zip_longest(*texts, fillvalue=b""), 1):
+            if one != other:
+                one, other = (text[:80].decode(errors="replace") for text in (one, other))
+                yield f"{what}: line {number} is {other!r}, and not {one!r}"
+                break

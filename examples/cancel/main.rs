@@ -4,36 +4,26 @@
 #![tactic(auto)]
 
 mod request;
+mod words;
 
 use crate::request::{document_in, request_for};
+use crate::words::Words;
 use anyhow::bail;
 use bytes::BytesMut;
 use futures::{Future, StreamExt, TryFutureExt};
 use futures_buffered::in_flight::FuturesUnorderedBounded;
 use std::collections::BTreeMap;
-use std::env::Env;
-use std::io::Print;
-use std::net::{Ipv4Addr, Net, SocketAddr};
+use std::io::{self, Print};
+use std::net::Net;
 use std::random::RandomSource;
 use std::sync::Wait;
 use std::time::{Clock, Duration};
-use std::{env, io};
 use tokio::io::{read_to_end, write_all};
 use tokio::net::TcpStream;
 use tokio::runtime::LocalRuntime;
 
 // How long the requests run before they are cleared.
 const MILLISECONDS: u64 = 200;
-
-fn read_settings<R: Env + AllocGlobal>(rt: &R) -> Result<(SocketAddr, usize), anyhow::Error> {
-    let mut words = env::args(rt)?;
-    let _program = words.next();
-    let (Some(port), Some(limit)) = (words.next(), words.next()) else {
-        bail!("usage: cancel PORT LIMIT");
-    };
-    let server = SocketAddr::from((Ipv4Addr::LOCALHOST, port.parse()?));
-    Ok((server, limit.parse()?))
-}
 
 fn size_of(answer: BytesMut) -> Result<usize, anyhow::Error> {
     let Some(document) = document_in(answer.as_slice()) else {
@@ -62,7 +52,8 @@ where
 
 fn main(rt: HostRuntime) -> Result<(), anyhow::Error> {
     let alloc = rt.alloc();
-    let (server, limit) = read_settings(&rt)?;
+    let mut words = Words::new(&rt, "cancel PORT LIMIT")?;
+    let (server, limit) = (words.server()?, words.limit()?);
     let mut runtime = LocalRuntime::new(&rt)?;
     let reactor = runtime.handle().reactor().clone()?;
     let timers = runtime.handle().time().clone()?;

@@ -4,17 +4,17 @@
 #![tactic(auto)]
 
 mod request;
+mod words;
 
 use crate::request::{document_in, request_for};
+use crate::words::Words;
 use anyhow::bail;
 use bytes::BytesMut;
 use futures::{FutureExt, StreamExt, TryFutureExt};
 use futures_buffered::in_flight::FuturesUnorderedBounded;
 use std::collections::{BTreeMap, BTreeSet};
-use std::env::Env;
-use std::net::{Ipv4Addr, SocketAddr};
+use std::io;
 use std::time::{Duration, Instant};
-use std::{env, io};
 use tokio::io::{read_to_end, write_all};
 use tokio::net::TcpStream;
 use tokio::runtime::LocalRuntime;
@@ -26,34 +26,6 @@ const MILLISECONDS: u64 = 1_000;
 
 type Answer = Result<io::Result<(TcpStream, BytesMut)>, Elapsed>;
 
-// What the program's words ask for.
-#[derive(Drop)]
-struct Settings {
-    server: SocketAddr,
-    site: String,
-    pages: u32,
-    limit: usize,
-    time: Duration,
-}
-
-fn read_settings<R: Env + AllocGlobal>(rt: &R) -> Result<Settings, anyhow::Error> {
-    let mut words = env::args(rt)?;
-    let _program = words.next();
-    let (Some(port), Some(site), Some(pages)) = (words.next(), words.next(), words.next()) else {
-        bail!("usage: retry PORT SITE PAGES LIMIT MILLISECONDS");
-    };
-    let (Some(limit), Some(milliseconds)) = (words.next(), words.next()) else {
-        bail!("usage: retry PORT SITE PAGES LIMIT MILLISECONDS");
-    };
-    Ok(Settings {
-        server: SocketAddr::from((Ipv4Addr::LOCALHOST, port.parse()?)),
-        site,
-        pages: pages.parse()?,
-        limit: limit.parse()?,
-        time: Duration::from_millis(milliseconds.parse()?),
-    })
-}
-
 fn is_good(answer: &Answer) -> bool {
     match answer {
         Ok(Ok((_socket, text))) => document_in(text.as_slice()).is_some(),
@@ -63,13 +35,9 @@ fn is_good(answer: &Answer) -> bool {
 
 fn main(rt: HostRuntime) -> Result<(), anyhow::Error> {
     let alloc = rt.alloc();
-    let Settings {
-        server,
-        site,
-        pages,
-        limit,
-        time,
-    } = read_settings(&rt)?;
+    let mut words = Words::new(&rt, "retry PORT SITE PAGES LIMIT MILLISECONDS")?;
+    let (server, site, pages) = (words.server()?, words.text()?, words.number()?);
+    let (limit, time) = (words.limit()?, words.milliseconds()?);
     let mut runtime = LocalRuntime::new(&rt)?;
     let reactor = runtime.handle().reactor().clone()?;
     let timers = runtime.handle().time().clone()?;

@@ -4,49 +4,21 @@
 #![tactic(auto)]
 
 mod request;
+mod words;
 
 use crate::request::{document_in, request_for};
-use anyhow::bail;
+use crate::words::Words;
 use bytes::BytesMut;
 use futures::channel::mpsc::unbounded;
 use futures::{FutureExt, StreamExt, TryFutureExt};
 use futures_buffered::in_flight::BufferedTryStreamExt;
-use std::env::Env;
-use std::net::{Ipv4Addr, SocketAddr};
-use std::time::Duration;
-use std::{env, io, thread};
+use std::{io, thread};
 use tokio::io::{read_to_end, write_all};
 use tokio::net::TcpStream;
 use tokio::runtime::LocalRuntime;
 use tokio::time::error::Elapsed;
 
 const PAGES: u32 = 30;
-
-// What the program's words ask for.
-#[derive(Drop)]
-struct Settings {
-    server: SocketAddr,
-    limit: usize,
-    time: Duration,
-}
-
-fn read_settings<R: Env + AllocGlobal>(rt: &R) -> Result<Settings, anyhow::Error> {
-    let mut words = env::args(rt)?;
-    let _program = words.next();
-    let (Some(port), Some(limit), Some(milliseconds)) = (words.next(), words.next(), words.next())
-    else {
-        bail!("usage: runner PORT LIMIT MILLISECONDS");
-    };
-    let settings = Settings {
-        server: SocketAddr::from((Ipv4Addr::LOCALHOST, port.parse()?)),
-        limit: limit.parse()?,
-        time: Duration::from_millis(milliseconds.parse()?),
-    };
-    if settings.limit == 0 {
-        bail!("LIMIT is 1 at least");
-    }
-    Ok(settings)
-}
 
 // The size of a page, or `None` if it did not come in time.
 fn size_of(
@@ -62,11 +34,8 @@ fn size_of(
 
 fn main(rt: HostRuntime) -> Result<(), anyhow::Error> {
     let alloc = rt.alloc();
-    let Settings {
-        server,
-        limit,
-        time,
-    } = read_settings(&rt)?;
+    let mut words = Words::new(&rt, "runner PORT LIMIT MILLISECONDS")?;
+    let (server, limit, time) = (words.server()?, words.limit()?, words.milliseconds()?);
     let mut runtime = LocalRuntime::new(&rt)?;
     let reactor = runtime.handle().reactor().clone()?;
     let timers = runtime.handle().time().clone()?;

@@ -10,11 +10,8 @@ struct moment {
     uint32_t chosen, last, preempted;
     int last_could_go_on;
     // What the next step of each thread touched in that state.
-    struct touch touches[MOST_THREADS][2];
-    int touch_counts[MOST_THREADS];
+    struct touches touches[MOST_THREADS];
 };
-
-enum { NOBODY = MOST_THREADS };
 
 static struct moment moments[MOST_STEPS];
 // So many choices are those of the execution before.
@@ -44,18 +41,17 @@ void read_schedule(void) {
 }
 
 // Whether the steps that came next of two threads touched one another.
-static int touch_one_another(const struct moment *at, uint32_t one, uint32_t other) {
-    for (int i = 0; i < at->touch_counts[one]; i++)
-        for (int k = 0; k < at->touch_counts[other]; k++) {
-            const struct touch *a = &at->touches[one][i], *b = &at->touches[other][k];
-            if (a->word == b->word && (a->writes || b->writes)) return 1;
-        }
+static int touch_one_another(const struct touches *one, const struct touches *other) {
+    for (int i = 0; i < one->count; i++)
+        for (int k = 0; k < other->count; k++)
+            if (one->of[i].word == other->of[k].word && (one->of[i].writes || other->of[k].writes)) return 1;
     return 0;
 }
 
-// The step of an execution before this one, and this next step of a thread, race: one that could have gone on then, and leads to
-// this step, is to be tried there.
-static void turn_around(uint32_t event, uint32_t thread) {
+// An earlier event, if there is one, and this next step of a thread race, unless one has to come first: a thread that could have
+// gone on then, and leads to this step, is to be tried there.
+static void turn_around(int event, uint32_t thread) {
+    if (event < 0 || events[event].thread == thread || threads[thread].clock[events[event].thread] >= events[event].number) return;
     struct moment *at = &moments[event];
     if (has(at->enabled, thread)) {
         at->to_try |= 1u << thread;
@@ -63,7 +59,7 @@ static void turn_around(uint32_t event, uint32_t thread) {
     }
     for (uint32_t t = 0; t < thread_count; t++) {
         if (!has(at->enabled, t)) continue;
-        uint32_t k = event;
+        uint32_t k = (uint32_t)event;
         while (k < depth && events[k].thread != t) k++;
         if (k < depth && threads[thread].clock[t] >= events[k].number) {
             at->to_try |= 1u << t;
@@ -73,24 +69,15 @@ static void turn_around(uint32_t event, uint32_t thread) {
     at->to_try |= at->enabled;
 }
 
-static void find_races_with(int event, uint32_t thread) {
-    if (event < 0) return;
-    const struct event *before = &events[event];
-    if (before->thread == thread || threads[thread].clock[before->thread] >= before->number) return;
-    turn_around((uint32_t)event, thread);
-}
-
 // Earlier steps of others after which the next step of each thread does not have to come.
 void find_races(void) {
-    struct touch touches[2];
-    int writer, readers[MOST_THREADS];
     for (uint32_t t = 0; t < thread_count; t++) {
         if (threads[t].state != READY) continue;
-        int count = touches_of(&threads[t].next, touches);
-        for (int k = 0; k < count; k++) {
-            writes_of(touches[k].word, &writer, readers);
-            find_races_with(writer, t);
-            for (int r = 0; r < MOST_THREADS && touches[k].writes; r++) find_races_with(readers[r], t);
+        struct touches touches = touches_of(&threads[t].next);
+        for (int k = 0; k < touches.count; k++) {
+            const struct word *word = word_at(touches.of[k].word);
+            turn_around(word->writer, t);
+            for (int r = 0; r < MOST_THREADS && touches.of[k].writes; r++) turn_around(word->readers[r], t);
         }
     }
 }
@@ -101,14 +88,14 @@ static void note_moment(struct moment *it, uint32_t enabled, uint32_t last) {
     it->last = last;
     it->last_could_go_on = has(enabled, last) && threads[last].next.kind != YIELD;
     for (uint32_t t = 0; t < thread_count; t++)
-        if (threads[t].state == READY) it->touch_counts[t] = touches_of(&threads[t].next, it->touches[t]);
+        if (threads[t].state == READY) it->touches[t] = touches_of(&threads[t].next);
     if (!depth) return;
     const struct moment *up = &moments[depth - 1];
     it->preempted = up->preempted + (up->last_could_go_on && up->chosen != up->last);
     // What was tried before stays known until a step touches it.
     uint32_t asleep = (up->asleep | up->tried) & ~(1u << up->chosen);
     for (uint32_t t = 0; t < thread_count; t++)
-        if (has(asleep, t) && !touch_one_another(up, t, up->chosen)) it->asleep |= 1u << t;
+        if (has(asleep, t) && !touch_one_another(&up->touches[t], &up->touches[up->chosen])) it->asleep |= 1u << t;
 }
 
 // Which of these may be chosen. None if each order from here on was seen, or will be.
@@ -121,7 +108,7 @@ static uint32_t choices(const struct moment *it) {
         return 1u << scheduled[depth];
     }
     uint32_t preempted = request.way == PREEMPTIONS ? it->preempted : 0;
-    return is_known_state(state_key(it->last_could_go_on ? it->last : NOBODY, preempted)) ? 0 : it->enabled;
+    return is_known_state(it->last_could_go_on ? it->last : NOBODY, preempted) ? 0 : it->enabled;
 }
 
 // The thread that makes the next step, or NOBODY if this execution has shown all that it can.

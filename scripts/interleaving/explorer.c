@@ -8,7 +8,7 @@
 #include <time.h>
 #include <unistd.h>
 
-enum { NOBODY = MOST_THREADS, SPARE_TURNS = 3, ENDS_KEPT = 1 << 22 };
+enum { SPARE_TURNS = 3 };
 
 extern char __start_explored_words[] __attribute__((weak)), __stop_explored_words[] __attribute__((weak));
 
@@ -41,7 +41,8 @@ static double seconds(void) {
 }
 
 // What the threads saw in the executions that end, as one number: two ways have to find the same.
-static uint64_t ends[ENDS_KEPT], end_count, end_sum;
+static struct table ends = {.size = 1 << 22};
+static uint64_t end_sum;
 
 static void note_end(void) {
     uint64_t saw[MOST_THREADS] = {0}, all = 0;
@@ -53,14 +54,8 @@ static void note_end(void) {
         saw[it->thread] = mix(saw[it->thread] + kind * 31 + (shows && kind != STORE ? it->found * 977 : 0));
     }
     for (uint32_t t = 0; t < thread_count; t++) all = mix(all + saw[t]);
-    all |= 1;
-    if (end_count * 2 >= ENDS_KEPT) return;
-    uint64_t k = all % ENDS_KEPT;
-    for (; ends[k]; k = (k + 1) % ENDS_KEPT)
-        if (ends[k] == all) return;
-    ends[k] = all;
-    end_count++;
-    end_sum += mix(all);
+    uint64_t before = ends.count;
+    if (!is_in(&ends, all | 1) && ends.count > before) end_sum += mix(all | 1);
 }
 
 static void begin_execution(void) {
@@ -73,9 +68,8 @@ static void begin_execution(void) {
     memset(spare_turns, 0, sizeof spare_turns);
     outcome = GOES_ON;
     depth = 0;
-    forget_memory();
+    forget_system();
     forget_words();
-    forget_fillings();
     forget_threads();
     settle();
 }
@@ -118,10 +112,9 @@ static void note_standstill(void) {
 
 static void note_finish(void) {
     outcome = FINISHED;
-    if (ended_with()) note_fault("the program ends with status %d", ended_with());
-    if (blocks_at_first == ~0ull) blocks_at_first = live_blocks();
-    if (live_blocks() != blocks_at_first)
-        note_fault("%lu blocks of memory are left, and %lu at the first end", live_blocks(), blocks_at_first);
+    if (program_status) note_fault("the program ends with status %d", program_status);
+    if (blocks_at_first == ~0ull) blocks_at_first = live_blocks;
+    if (live_blocks != blocks_at_first) note_fault("%lu blocks of memory are left, and %lu at the first end", live_blocks, blocks_at_first);
 }
 
 // The threads that can make a step. None if the execution is over.
@@ -169,7 +162,7 @@ static void execute(void) {
 
 static void print_summary(const char *how) {
     printf("%s orders=%lu cut=%lu steps=%lu threads=%lu ends=%lu/%08lx unfair=%lu states=%lu seconds=%.1f\n", how, executions, cut, longest,
-           most_threads, end_count, end_sum >> 32, unfair, known_states(), seconds());
+           most_threads, ends.count, end_sum >> 32, unfair, known_states.count, seconds());
 }
 
 // 12x0 are twelve steps of thread 0.
@@ -223,7 +216,7 @@ static void catch_signals(void) {
 
 static int stops_early(void) {
     if (executions >= request.most) return 1;
-    return executions % 256 == 0 && (seconds() > request.seconds || !has_room_for_states());
+    return executions % 256 == 0 && (seconds() > request.seconds || known_states.count >= known_states.size / 2);
 }
 
 // One execution after another, until a fault, the last order, or what was asked for at most.

@@ -29,12 +29,11 @@
 // round before, at most MOST_YIELDS times. If no other thread can go on, there is no such bound, and a round like the one before
 // is followed three times. An order in which one thread makes more than MOST_ALONE steps while another could go on is given up,
 // and counted. States are told apart by 64 bits of what led there.
-#ifndef EXPLORER_H
-#define EXPLORER_H
+#pragma once
 #define _GNU_SOURCE
 #include <stdint.h>
 
-enum { MOST_THREADS = 8, MOST_STEPS = 6000, MOST_FRAMES = 12, MOST_SEEN = 256, MOST_ALONE = 400, MOST_YIELDS = 2, STACK_BYTES = 1 << 20 };
+enum { MOST_THREADS = 8, NOBODY = 8, MOST_STEPS = 6000, MOST_FRAMES = 12, MOST_SEEN = 256, MOST_ALONE = 400, MOST_YIELDS = 2, STACK_BYTES = 1 << 20 };
 
 enum kind { NOTHING, LOAD, STORE, SWAP, ADD, SUB, AND, OR, XOR, EXCHANGE, PARK, WAKE, YIELD, JOIN };
 
@@ -73,10 +72,20 @@ struct thread {
     int is_touched, last_event;
 };
 
-// A word that a step touches, and whether it may change it.
-struct touch {
-    uint64_t word;
-    int writes;
+// The words that a step touches, and whether it may change each.
+struct touches {
+    int count;
+    struct touch {
+        uint64_t word;
+        int writes;
+    } of[2];
+};
+
+// A word: its last write, the reads since, as events of this execution or -1, which steps came before these, and numbers for what led there.
+struct word {
+    uint64_t address, execution, write_past, read_past;
+    int writer, readers[MOST_THREADS];
+    uint64_t written[MOST_THREADS], read[MOST_THREADS];
 };
 
 // A step that was made, and the return addresses of the calls around it.
@@ -86,11 +95,14 @@ struct event {
     struct step step;
 };
 
+// Numbers other than 0. One that is asked for is kept, as long as half of the table is free.
+struct table {
+    uint64_t *keys, size, count;
+};
+
 enum outcome { GOES_ON, FINISHED, CUT, FAILED };
 enum way { RACES, STATES, PLAIN, PREEMPTIONS, REPLAY };
 
-extern struct thread threads[MOST_THREADS];
-extern uint32_t thread_count, running;
 extern struct event events[MOST_STEPS];
 extern uint32_t depth;
 extern enum outcome outcome;
@@ -118,43 +130,39 @@ static inline uint64_t mix(uint64_t x) {
 // explorer.c
 void note_fault(const char *form, ...) __attribute__((format(printf, 1, 2)));
 
-// memory.c
-void forget_memory(void);
+// system.c
+extern uint64_t live_blocks;
+void forget_system(void);
 int is_live(const void *at);
-uint64_t live_blocks(void);
 uint64_t place_in_arena(uint64_t address);
-
-// program.c
-void forget_fillings(void);
+int64_t explored_getrandom(uint8_t *to, uint64_t count);
 
 // threads.c
+extern struct thread threads[MOST_THREADS];
+extern uint32_t thread_count, running;
+extern int program_status;
 void make_stacks(void);
 void forget_threads(void);
 void make_thread(void *(*start)(void *), void *given);
 void run_thread(uint32_t thread);
 void settle(void);
-void end_program(int status);
-int ended_with(void);
+void end_program(void) __attribute__((noreturn));
 void stop_here(const char *form, ...) __attribute__((noreturn, format(printf, 1, 2)));
-int goes_on_by_itself(const struct thread *thread);
 int can_go_on(uint32_t thread);
 
 // past.c
+extern struct table known_states;
 void forget_words(void);
 void raise_clock(uint64_t to[MOST_THREADS], const uint64_t from[MOST_THREADS]);
 int changes_word(const struct step *step);
-int touches_of(const struct step *step, struct touch *to);
-uint64_t writes_of(uint64_t word, int *writer, int readers[MOST_THREADS]);
+struct touches touches_of(const struct step *step);
+struct word *word_at(uint64_t address);
 void note_step(uint32_t thread);
-int is_known_state(uint64_t key);
-uint64_t state_key(uint32_t last, uint32_t preempted);
-uint64_t known_states(void);
-int has_room_for_states(void);
+int is_in(struct table *table, uint64_t key);
+int is_known_state(uint32_t last, uint32_t preempted);
 
 // choices.c
 void read_schedule(void);
 void find_races(void);
 uint32_t choose(uint32_t enabled, uint32_t last);
 int go_to_next_order(void);
-
-#endif

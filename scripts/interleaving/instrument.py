@@ -6,7 +6,6 @@ the program may write outside of its heap go into a section of their own, by whi
 
 An instruction of a form that is not known here is a fault, and so is a function of the system that is not.
 """
-import dataclasses
 import re
 
 # What the explorer does in place of the system.
@@ -19,98 +18,72 @@ OPERATIONS = {"xchg": "swap", "add": "add", "sub": "sub", "and": "and", "or": "o
 COUNTS = {"std_alloc::arc::increment": "COUNTS_UP", "std_alloc::arc::decrement": "COUNTS_DOWN"}
 
 ATOMIC = re.compile(r"\b(?:load|store) atomic\b|\bcmpxchg\b|\batomicrmw\b|^\s*fence\b")
-LOAD = re.compile(r"^(\s*%\S+ = )load atomic (?:volatile )?i(8|16|32|64), ptr (\S+) \w+, align \d+(?:, !.*)?$")
-STORE = re.compile(r"^(\s*)store atomic (?:volatile )?i(8|16|32|64) (\S+), ptr (\S+) \w+, align \d+(?:, !.*)?$")
-CHANGE = re.compile(r"^(\s*%\S+ = )atomicrmw (?:volatile )?(\w+) ptr (\S+), i(8|16|32|64) (\S+) \w+, align \d+(?:, !.*)?$")
-EXCHANGE = re.compile(r"^(\s*)(%\S+) = cmpxchg (?:weak )?(?:volatile )?ptr (\S+), i(8|16|32|64) (\S+), i\d+ (\S+) \w+ \w+, align \d+(?:, !.*)?$")
+# The forms of an atomic instruction: its result, its place, and one or two values of so many bits.
+FORMS = [
+    r"(?P<to>\s*%\S+ = )(?P<name>load) atomic (?:volatile )?i(?P<bits>\d+), ptr (?P<at>\S+) \w+",
+    r"(?P<to>\s*)(?P<name>store) atomic (?:volatile )?i(?P<bits>\d+) (?P<given>\S+), ptr (?P<at>\S+) \w+",
+    rf"(?P<to>\s*%\S+ = )atomicrmw (?:volatile )?(?P<name>{'|'.join(OPERATIONS)}) ptr (?P<at>\S+), i(?P<bits>\d+) (?P<given>\S+) \w+",
+    r"(?P<to>\s*%\S+ = )(?P<name>cmpxchg) (?:weak )?(?:volatile )?ptr (?P<at>\S+), i(?P<bits>\d+) (?P<given>\S+), i\d+ (?P<other>\S+) \w+ \w+",
+]
 ASSEMBLER = re.compile(r"\bcall\b[^\"]*\basm\b(?! sideeffect \"\", \"~\{memory\}\"\(\))")
-NAME = r'("[^"]*"|[\w.$]+)'
-DEFINED = re.compile(rf"^define\b.*?@{NAME}\(")
-DECLARED = re.compile(rf"^declare\b.*?@{NAME}\(")
+FUNCTION = re.compile(r'^(define|declare)\b.*?@("[^"]*"|[\w.$]+)\(')
 WRITABLE = re.compile(r"^@\S+ = .*\bglobal\b")
 CALLED = re.compile(r"@(" + "|".join(REPLACED) + r")\(")
 
 
-class Unknown(Exception):
-    """The module has something that the explorer does not know."""
+class NotExplored(Exception):
+    """There is no program that the explorer can run."""
 
 
-@dataclasses.dataclass
-class Module:
-    """The text of a module as far as it is read: its lines, the functions of its atomic instructions, and what is called for them."""
+def calls_for(line, function, site):
+    """The lines in place of an atomic instruction of this function. An exchange tells what was there, and whether it was the one given."""
+    found = next(filter(None, (re.fullmatch(form + r", align \d+(?:, !.*)?", line) for form in FORMS)), None)
+    if found is None:
+        raise NotExplored(f"an atomic instruction of a form that is not known, in {function}: {line.strip()}")
+    it = {"given": "0", "other": "0", **found.groupdict()}
+    kind, name = f"i{it['bits']}", {"cmpxchg": "exchange", **OPERATIONS}.get(it["name"], it["name"])
+    call = f"call {kind} @explored_{name}{it['bits']}(ptr {it['at']}, {kind} {it['given']}, {kind} {it['other']}, i32 {site})"
+    if name != "exchange":
+        return [it["to"] + call]
+    was, same, half = (f'%"{site}.{part}"' for part in ("was", "same", "half"))
+    return [
+        f"  {was} = {call}",
+        f"  {same} = icmp eq {kind} {was}, {it['given']}",
+        f"  {half} = insertvalue {{ {kind}, i1 }} poison, {kind} {was}, 0",
+        f"{it['to']}insertvalue {{ {kind}, i1 }} {half}, i1 {same}, 1",
+    ]
 
-    lines: list[str] = dataclasses.field(default_factory=list)
-    sites: list[str] = dataclasses.field(default_factory=list)
-    calls: set[tuple[str, str, str]] = dataclasses.field(default_factory=set)
 
-    def call(self, result, name, kinds):
-        self.calls.add((result, f"explored_{name}", kinds))
-        return f"call {result} @explored_{name}"
-
-    def add_exchange(self, found, site):
-        """One that answers what was there, and whether it was the one wanted."""
-        space, to, at, bits, wanted, new = found.groups()
-        kind, name = f"i{bits}", to[1:].strip('"')
-        was, same, half = (f'%"{name}.{part}"' for part in ("was", "same", "half"))
-        call = self.call(kind, f"exchange{bits}", f"ptr, {kind}, {kind}, i32")
-        self.lines += [
-            f"{space}{was} = {call}(ptr {at}, {kind} {wanted}, {kind} {new}, i32 {site})",
-            f"{space}{same} = icmp eq {kind} {was}, {wanted}",
-            f"{space}{half} = insertvalue {{ {kind}, i1 }} poison, {kind} {was}, 0",
-            f"{space}{to} = insertvalue {{ {kind}, i1 }} {half}, i1 {same}, 1",
-        ]
-
-    def add_atomic(self, line, function):
-        """Adds the calls for an atomic instruction of this function."""
-        site = len(self.sites)
-        self.sites.append(function)
-        if found := LOAD.match(line):
-            to, bits, at = found.groups()
-            self.lines.append(f"{to}{self.call(f'i{bits}', f'load{bits}', 'ptr, i32')}(ptr {at}, i32 {site})")
-        elif found := STORE.match(line):
-            space, bits, value, at = found.groups()
-            call = self.call(f"i{bits}", f"store{bits}", f"ptr, i{bits}, i32")
-            self.lines.append(f"{space}{call}(ptr {at}, i{bits} {value}, i32 {site})")
-        elif (found := CHANGE.match(line)) and found[2] in OPERATIONS:
-            to, kind, at, bits, value = found.groups()
-            call = self.call(f"i{bits}", f"{OPERATIONS[kind]}{bits}", f"ptr, i{bits}, i32")
-            self.lines.append(f"{to}{call}(ptr {at}, i{bits} {value}, i32 {site})")
-        elif found := EXCHANGE.match(line):
-            self.add_exchange(found, site)
-        else:
-            raise Unknown(f"an atomic instruction of a form that is not known, in {function}: {line.strip()}")
-
-    def add(self, line, function):
-        """Adds a line of this function."""
-        if declared := DECLARED.match(line):
-            name = declared[1].strip('"')
-            if not name.startswith("llvm.") and name not in REPLACED and name not in LEFT:
-                raise Unknown(f"the program calls {name}, of which the explorer does not know whether it is a step")
-        if ASSEMBLER.search(line):
-            raise Unknown(f"assembler in {function}, which may have steps: {line.strip()}")
-        if ATOMIC.search(line):
-            self.add_atomic(line, function)
-            return
-        line = CALLED.sub(r"@explored_\1(", line)
-        if WRITABLE.match(line):
-            line = re.sub(r"(, align \d+)", r', section "explored_words"\1', line)
-        self.lines.append(line)
+def replaced(line, function):
+    """A line of this function without an atomic instruction, with the explorer's functions in place of the system's."""
+    declared = FUNCTION.match(line)
+    name = declared[2].strip('"') if declared and declared[1] == "declare" else "llvm."
+    if not name.startswith("llvm.") and name not in REPLACED and name not in LEFT:
+        raise NotExplored(f"the program calls {name}, of which the explorer does not know whether it is a step")
+    if ASSEMBLER.search(line):
+        raise NotExplored(f"assembler in {function}, which may have steps: {line.strip()}")
+    line = CALLED.sub(r"@explored_\1(", line)
+    return re.sub(r"(, align \d+)", r', section "explored_words"\1', line) if WRITABLE.match(line) else line
 
 
 def instrument(text):
     """Returns the module with its steps as calls, and the function of each atomic instruction."""
-    module, function = Module(), ""
+    lines, sites, function = [], [], ""
     for line in text.splitlines():
-        if found := DEFINED.match(line):
-            function = found[1].strip('"')
+        if (found := FUNCTION.match(line)) and found[1] == "define":
+            function = found[2].strip('"')
             line = line.replace("@main(", "@explored_main(") if function == "main" else line
-        module.add(line, function)
-    if not module.sites:
-        raise Unknown("the module has no atomic instruction")
-    if not any("@explored_main(" in line for line in module.lines):
-        raise Unknown("the module has no function main")
-    module.lines += [f"declare {result} @{name}({kinds})" for result, name, kinds in sorted(module.calls)]
-    return "\n".join(module.lines) + "\n", module.sites
+        if ATOMIC.search(line):
+            lines += calls_for(line, function, len(sites))
+            sites.append(function)
+        else:
+            lines.append(replaced(line, function))
+    if not sites or not any("@explored_main(" in line for line in lines):
+        raise NotExplored("the module has no atomic instruction, or no function main")
+    for bits in (8, 16, 32, 64):
+        for name in ("load", "store", "exchange", *OPERATIONS.values()):
+            lines.append(f"declare i{bits} @explored_{name}{bits}(ptr, i{bits}, i{bits}, i32)")
+    return "\n".join(lines) + "\n", sites
 
 
 def table_of(sites):

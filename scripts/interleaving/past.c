@@ -5,13 +5,6 @@
 
 enum { WORDS = 1 << 12 };
 
-// A word: its last write, the reads since, which steps came before these, and numbers for what led there.
-struct word {
-    uint64_t address, execution, write_past, read_past;
-    int writer, readers[MOST_THREADS];
-    uint64_t written[MOST_THREADS], read[MOST_THREADS];
-};
-
 static struct word words[WORDS];
 static uint64_t execution, word_count;
 
@@ -20,7 +13,7 @@ void forget_words(void) {
     word_count = 0;
 }
 
-static struct word *word_at(uint64_t address) {
+struct word *word_at(uint64_t address) {
     uint64_t k = mix(address) % WORDS;
     for (; words[k].execution == execution; k = (k + 1) % WORDS)
         if (words[k].address == address) return &words[k];
@@ -49,26 +42,17 @@ int changes_word(const struct step *step) {
 }
 
 // The words that a step touches. A park reads its word, and both it and a wake change who sleeps there.
-int touches_of(const struct step *step, struct touch *to) {
+struct touches touches_of(const struct step *step) {
     uint64_t word = step->address & ~7ull, sleepers = step->address | 1;
-    int takes_all = request.way == STATES || request.way == PLAIN || request.way == PREEMPTIONS;
     switch (step->kind) {
     case NOTHING:
     case YIELD:
-    case JOIN: return 0;
-    case LOAD: to[0] = (struct touch){word, 0}; return 1;
-    case PARK: to[0] = (struct touch){word, 0}, to[1] = (struct touch){sleepers, 1}; return 2;
-    case WAKE: to[0] = (struct touch){sleepers, 1}; return 1;
-    default: to[0] = (struct touch){word, takes_all || changes_word(step)}; return 1;
+    case JOIN: return (struct touches){0};
+    case LOAD: return (struct touches){1, {{word, 0}}};
+    case PARK: return (struct touches){2, {{word, 0}, {sleepers, 1}}};
+    case WAKE: return (struct touches){1, {{sleepers, 1}}};
+    default: return (struct touches){1, {{word, (request.way != RACES && request.way != REPLAY) || changes_word(step)}}};
     }
-}
-
-// Who wrote the word last, and who has read it since, as events of this execution, or -1.
-uint64_t writes_of(uint64_t address, int *writer, int readers[MOST_THREADS]) {
-    const struct word *word = word_at(address);
-    *writer = word->writer;
-    memcpy(readers, word->readers, sizeof word->readers);
-    return word->write_past;
 }
 
 void raise_clock(uint64_t to[MOST_THREADS], const uint64_t from[MOST_THREADS]) {
@@ -94,51 +78,41 @@ static void note_read(struct word *word, const struct thread *by, uint32_t threa
 // Notes the step that this thread makes now: what came before it, and what comes after it.
 void note_step(uint32_t thread) {
     struct thread *me = &threads[thread];
-    struct touch touches[2];
-    int count = touches_of(&me->next, touches);
+    struct touches touches = touches_of(&me->next);
     me->clock[thread]++;
     events[depth].thread = thread;
     events[depth].number = me->clock[thread];
     events[depth].step = me->next;
     events[depth].found = 0;
     uint64_t past = mix(me->past + me->next.kind);
-    for (int k = 0; k < count; k++) {
-        const struct word *word = word_at(touches[k].word);
-        past = mix(past + word->write_past + (touches[k].writes ? word->read_past * 3 : 0));
+    for (int k = 0; k < touches.count; k++) {
+        const struct word *word = word_at(touches.of[k].word);
+        past = mix(past + word->write_past + (touches.of[k].writes ? word->read_past * 3 : 0));
         raise_clock(me->clock, word->written);
-        if (touches[k].writes) raise_clock(me->clock, word->read);
+        if (touches.of[k].writes) raise_clock(me->clock, word->read);
     }
     me->past = past;
-    for (int k = 0; k < count; k++) {
-        struct word *word = word_at(touches[k].word);
-        if (touches[k].writes) note_write(word, me);
+    for (int k = 0; k < touches.count; k++) {
+        struct word *word = word_at(touches.of[k].word);
+        if (touches.of[k].writes) note_write(word, me);
         else note_read(word, me, thread);
     }
 }
 
 // The states that were come to, by what led there.
-enum { STATES_KEPT = 1 << 25 };
-static uint64_t *states, state_count;
+struct table known_states = {.size = 1 << 25};
 
-uint64_t known_states(void) { return state_count; }
-
-int has_room_for_states(void) { return state_count * 2 < STATES_KEPT; }
-
-// Whether there was such a state before. Once half of the table is taken, none is known, and the exploration stops soon.
-int is_known_state(uint64_t key) {
-    if (!states) states = mmap(NULL, STATES_KEPT * sizeof *states, PROT_READ | PROT_WRITE, MAP_PRIVATE | MAP_ANONYMOUS | MAP_NORESERVE, -1, 0);
-    uint64_t k = mix(key) % STATES_KEPT;
-    for (; states[k]; k = (k + 1) % STATES_KEPT)
-        if (states[k] == key) return 1;
-    if (has_room_for_states()) {
-        states[k] = key;
-        state_count++;
-    }
+int is_in(struct table *table, uint64_t key) {
+    if (!table->keys) table->keys = mmap(NULL, table->size * sizeof key, PROT_READ | PROT_WRITE, MAP_PRIVATE | MAP_ANONYMOUS | MAP_NORESERVE, -1, 0);
+    uint64_t k = mix(key) % table->size;
+    for (; table->keys[k]; k = (k + 1) % table->size)
+        if (table->keys[k] == key) return 1;
+    if (table->count < table->size / 2) table->keys[k] = key, table->count++;
     return 0;
 }
 
-uint64_t state_key(uint32_t last, uint32_t preempted) {
+int is_known_state(uint32_t last, uint32_t preempted) {
     uint64_t key = mix(last + 991) + mix(preempted + 12345);
     for (uint32_t t = 0; t < thread_count; t++) key += mix(threads[t].past + t * 7919 + threads[t].state * 104729ull);
-    return key | 1;
+    return is_in(&known_states, key | 1);
 }

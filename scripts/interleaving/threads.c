@@ -13,9 +13,9 @@ extern int explored_main(void);
 
 struct thread threads[MOST_THREADS];
 uint32_t thread_count, running;
+int program_status;
 static char *stacks;
 static uint64_t explorer_stack;
-static int program_status;
 // The return addresses of the calls around the next step of each thread.
 static uint64_t next_frames[MOST_THREADS][MOST_FRAMES];
 
@@ -59,15 +59,11 @@ void stop_here(const char *form, ...) {
     abort();
 }
 
-void end_program(int status) {
-    program_status = status;
-    if (status) stop_here("the program exits with status %d", status);
+void end_program(void) {
     outcome = FINISHED;
     to_explorer();
     abort();
 }
-
-int ended_with(void) { return program_status; }
 
 static void enter(void) {
     struct thread *me = &threads[running];
@@ -110,7 +106,7 @@ void make_thread(void *(*start)(void *), void *given) {
 
 // Loops. A thread that yields goes on alone if it saw other than in its round before. Its own past says so, or two orders
 // of the same steps would differ.
-int goes_on_by_itself(const struct thread *thread) {
+static int goes_on_by_itself(const struct thread *thread) {
     return !thread->seen_count || (thread->round != thread->round_before && thread->free_rounds < MOST_YIELDS);
 }
 
@@ -122,17 +118,16 @@ int can_go_on(uint32_t number) {
     return 1;
 }
 
-static void note_seen(struct thread *me, uint64_t word) {
-    for (uint32_t k = 0; k < me->seen_count; k++)
-        if (me->seen[k] == word) return;
-    if (me->seen_count == MOST_SEEN) stop_here("a thread looks at too many words in one round");
-    me->seen[me->seen_count++] = word;
-}
-
 static int has_seen(const struct thread *it, uint64_t word) {
     for (uint32_t k = 0; k < it->seen_count; k++)
         if (it->seen[k] == word) return 1;
     return 0;
+}
+
+static void note_seen(struct thread *me, uint64_t word) {
+    if (has_seen(me, word)) return;
+    if (me->seen_count == MOST_SEEN) stop_here("a thread looks at too many words in one round");
+    me->seen[me->seen_count++] = word;
 }
 
 // Threads that looked at this word may go on after their yields.
@@ -178,46 +173,27 @@ static struct event *stop_before(struct step step) {
     return event;
 }
 
-// The event of an atomic step, once it is chosen, or nothing if it only counts a holder up.
-static struct event *begin(enum kind kind, uint32_t bytes, uint32_t site, uint64_t address, uint64_t first, uint64_t second) {
-    if (explored_sites[site].count == COUNTS_UP) return NULL;
-    return stop_before((struct step){kind, bytes, site, 0, address, first, second});
-}
-
-static void end(struct event *event, uint64_t found) {
-    if (event) event->found = found;
-}
-
-#define CHANGE(name, kind, bits, becomes)                                                                     \
-    uint##bits##_t explored_##name##bits(uint##bits##_t *at, uint##bits##_t given, uint32_t site) {           \
-        struct event *event = begin(kind, bits / 8, site, (uint64_t)at, given, 0);                            \
-        uint##bits##_t was = *at;                                                                             \
-        *at = (uint##bits##_t)(becomes);                                                                      \
-        end(event, was);                                                                                      \
+// An atomic instruction: what it leaves of what was there and of the values given to it. It is no step if it only counts a holder up.
+#define ATOMIC(name, kind, bits, becomes)                                                                     \
+    uint##bits##_t explored_##name##bits(uint##bits##_t *at, uint##bits##_t given, uint##bits##_t other, uint32_t site) { \
+        struct step step = {kind, bits / 8, site, 0, (uint64_t)at, given, other};                             \
+        struct event *event = explored_sites[site].count == COUNTS_UP ? NULL : stop_before(step);             \
+        uint##bits##_t was = *at, is = (uint##bits##_t)(becomes);                                             \
+        if (is != was) *at = is;                                                                              \
+        if (event) event->found = was;                                                                        \
         return was;                                                                                           \
     }
 
 #define ATOMICS(bits)                                                                                         \
-    uint##bits##_t explored_load##bits(uint##bits##_t *at, uint32_t site) {                                   \
-        struct event *event = begin(LOAD, bits / 8, site, (uint64_t)at, 0, 0);                                \
-        uint##bits##_t was = *at;                                                                             \
-        end(event, was);                                                                                      \
-        return was;                                                                                           \
-    }                                                                                                         \
-    uint##bits##_t explored_exchange##bits(uint##bits##_t *at, uint##bits##_t from, uint##bits##_t to, uint32_t site) { \
-        struct event *event = begin(EXCHANGE, bits / 8, site, (uint64_t)at, from, to);                        \
-        uint##bits##_t was = *at;                                                                             \
-        if (was == from) *at = to;                                                                            \
-        end(event, was);                                                                                      \
-        return was;                                                                                           \
-    }                                                                                                         \
-    CHANGE(store, STORE, bits, given)                                                                         \
-    CHANGE(swap, SWAP, bits, given)                                                                           \
-    CHANGE(add, ADD, bits, was + given)                                                                       \
-    CHANGE(sub, SUB, bits, was - given)                                                                       \
-    CHANGE(and, AND, bits, was & given)                                                                       \
-    CHANGE(or, OR, bits, was | given)                                                                         \
-    CHANGE(xor, XOR, bits, was ^ given)
+    ATOMIC(load, LOAD, bits, was)                                                                             \
+    ATOMIC(store, STORE, bits, given)                                                                         \
+    ATOMIC(swap, SWAP, bits, given)                                                                           \
+    ATOMIC(add, ADD, bits, was + given)                                                                       \
+    ATOMIC(sub, SUB, bits, was - given)                                                                       \
+    ATOMIC(and, AND, bits, was & given)                                                                       \
+    ATOMIC(or, OR, bits, was | given)                                                                         \
+    ATOMIC(xor, XOR, bits, was ^ given)                                                                       \
+    ATOMIC(exchange, EXCHANGE, bits, was == given ? other : was)
 
 ATOMICS(8)
 ATOMICS(16)
@@ -241,10 +217,7 @@ int explored_pthread_join(uint64_t name, void **result) {
     return 0;
 }
 
-int explored_pthread_detach(uint64_t name) {
-    (void)name;
-    return 0;
-}
+int explored_pthread_detach(void) { return 0; }
 
 uint64_t explored_pthread_self(void) { return FIRST_NAME + running; }
 
@@ -298,11 +271,9 @@ static int64_t wake(uint64_t address, uint64_t most) {
     return woken;
 }
 
-int64_t explored_getrandom(uint8_t *to, uint64_t count, uint32_t flags);
-
 int64_t explored_syscall(int64_t number, uint64_t first, uint64_t second, uint64_t third, void *fourth, ...) {
     if (number == CALL_FUTEX && (second & 127) == 0) return park(first, (uint32_t)third, fourth);
     if (number == CALL_FUTEX && (second & 127) == 1) return wake(first, third);
-    if (number == CALL_GETRANDOM) return explored_getrandom((uint8_t *)first, second, 0);
+    if (number == CALL_GETRANDOM) return explored_getrandom((uint8_t *)first, second);
     stop_here("the program makes system call %ld, which is not known here", (long)number);
 }

@@ -7,18 +7,8 @@ and `IS_WRONG` asks whether this body is asked for: the explorer answers in plac
 import dataclasses
 import re
 
-QUESTION = "libc::getpid() == {number}"
-
-
-class Misplaced(Exception):
-    """A wrong body does not fit the sources or the scenes."""
-
-
-@dataclasses.dataclass(frozen=True)
-class Edit:
-    file: str
-    old: str
-    new: str
+from instrument import NotExplored
+from repository import bodies_in, edits_in
 
 
 @dataclasses.dataclass(frozen=True)
@@ -27,44 +17,33 @@ class Body:
     number: int
     scene: str
     bound: str
-    edits: tuple[Edit, ...]
+    edits: tuple[tuple[str, str, str], ...]
 
-
-def read_body(name, number, rest):
-    """Reads a body of the table: lines `for`, `scene`, and then `file`, `old` and `new` of its edits, each over as many lines as it has."""
-    fields, edits = {}, []
-    for what, value in re.findall(r"^(for|scene|file|old|new): (.*?)$(?=\n\S|\n*\Z)", rest, re.M | re.S):
-        fields[what] = " ".join(value.split())
-        if what == "new":
-            edits.append(Edit(fields["file"], fields["old"], fields["new"]))
-    scene, _, bound = fields["scene"].partition(" | ")
-    return Body(name, number, scene, bound, tuple(edits))
+    def changed(self, file, text, old, new):
+        """The text of a file with one of the edits in it."""
+        found = re.findall(r"\s+".join(map(re.escape, old.split())), text)
+        if len(found) != 1:
+            raise NotExplored(f"{self.name}: {file} has {len(found)} times: {old}")
+        new = " ".join(new.split()).replace("OLD", found[0])
+        return text.replace(found[0], new.replace("IS_WRONG", f"libc::getpid() == {self.number}"))
 
 
 def read_bodies(table):
-    found = re.findall(r"^name: (\w+)\n(.*?)(?=^name: |\Z)", table.read_text(encoding="utf-8"), re.M | re.S)
-    return [read_body(name, number, rest) for number, (name, rest) in enumerate(found, 1)]
-
-
-def changed(text, edit, body):
-    """The text of a source with an edit of a body in it."""
-    found = re.findall(r"\s+".join(map(re.escape, edit.old.split())), text)
-    if len(found) != 1:
-        raise Misplaced(f"{body.name}: {edit.file} has {len(found)} times: {edit.old}")
-    new = edit.new.replace("OLD", found[0]).replace("IS_WRONG", QUESTION.format(number=body.number))
-    return text.replace(found[0], new)
+    """Reads the bodies of a table. A text may be over several lines."""
+    bodies = []
+    for name, text in bodies_in(table):
+        scene, _, bound = re.search(r"^scene: (.*)", text, re.M)[1].partition(" | ")
+        bodies.append(Body(name, len(bodies) + 1, scene, bound, tuple(edits_in(text))))
+    return bodies
 
 
 def switch_on(room, bodies):
     """Puts the bodies into the libraries of the room, and lets each of these ask which body is wanted."""
-    crates = set()
+    crates, listed = set(), room / "crates.txt"
     for body in bodies:
-        for edit in body.edits:
-            path = room / edit.file
-            path.write_text(changed(path.read_text(encoding="utf-8"), edit, body), encoding="utf-8")
-            crates.add(edit.file.split("/")[1])
-    listed = room / "crates.txt"
+        for file, old, new in body.edits:
+            text = (room / file).read_text(encoding="utf-8")
+            (room / file).write_text(body.changed(file, text, old, new), encoding="utf-8")
+            crates.add(file.split("/")[1])
     lines = listed.read_text(encoding="utf-8")
-    for crate in crates:
-        lines = re.sub(rf"^{crate}:", f"{crate}: libc", lines, flags=re.M)
-    listed.write_text(lines, encoding="utf-8")
+    listed.write_text(re.sub(rf"^({'|'.join(crates)}):", r"\1: libc", lines, flags=re.M) if crates else lines, encoding="utf-8")
