@@ -6,7 +6,7 @@ use calls_world::session::{Session, first_of};
 use calls_world::subject::{NewResult, Subject};
 use calls_world::text::Text;
 use calls_world::values::{Made, NumberFuture, new_value, new_values};
-use calls_world::world::{MISUSE, SharedWorld};
+use calls_world::world::{Fault, SharedWorld};
 use futures::Stream;
 use futures::task::Context;
 use futures_buffered::IterExt;
@@ -130,7 +130,7 @@ fn growing_of_filtered(
     let items = futures.into_iter().filter(|_| is_drawn(&draws));
     let made = FuturesUnordered::from_iter(alloc, items);
     if matches!(made, Err(NewFault::Memory)) && !asks_for_memory(draws.load(SeqCst)) {
-        world.fail(MISUSE);
+        world.fail(Fault::Misuse);
     }
     made
 }

@@ -3,7 +3,7 @@ ghost use Rattle.std.specs.Prelude.{◌<◌};
 
 use crate::line::Line;
 use crate::reply::Reply;
-use crate::session::{Options, Session};
+use crate::session::{Options, Session, first_of};
 use crate::subject::{Begun, Library, NewResult, Nothing, Subject};
 use crate::words::{push_words, split_word};
 use futures_buffered_core::ready_core::NewFault;
@@ -91,13 +91,12 @@ pub fn run_with_room<L, O: Subject<L>, F: FnOnce(&Session, usize) -> NewResult<O
     requires polls { O.can_poll }
     requires makes { (session : _) (n : _) → 0 < n → F.pre make session n }
 {
-    match begun.numbers.first() {
-        Some(n) if *n > 0 => {
-            let made = make(session, *n);
-            run_made(session, made, begun)
-        }
-        _ => Ok(0),
+    let n = first_of(begun.numbers);
+    if n == 0 {
+        return Ok(0);
     }
+    let made = make(session, n);
+    run_made(session, made, begun)
 }
 
 // If memory is refused, and no value is left of those that the constructor was given, the object is asked for once

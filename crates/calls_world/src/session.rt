@@ -7,7 +7,7 @@ use crate::report::Report;
 use crate::text::Text;
 use crate::values::{Given, ItemSource};
 use crate::words::{number, span, split_word};
-use crate::world::{OUT_OF_MEMORY, SOURCE, SharedWorld};
+use crate::world::{Fault, SOURCE, SharedWorld};
 use futures::test::MockTask;
 use futures_buffered_core::ready_core::ReadyCore;
 use std::alloc::{AllocError, AllocGlobal, Global};
@@ -140,10 +140,12 @@ impl Session {
     /// What went wrong up to the reply of the line, which is appended to it.
     pub fn append_faults(&mut self) {
         if self.reply.has_failed {
-            self.world.fail(OUT_OF_MEMORY);
+            self.world.fail(Fault::Memory);
         }
-        if let Some(fault) = self.world.fault() {
-            self.reply.append(format_args!(" ({fault})"));
+        match self.world.fault() {
+            Some(Fault::Misuse) => self.reply.append(" (a value did what its kind does not)"),
+            Some(Fault::Memory) => self.reply.append(" (out of memory)"),
+            None => {}
         }
         if self.counter.is_exceeded {
             self.reply.append(" (asked for memory)");

@@ -6,7 +6,7 @@ use crate::memory;
 use crate::script::Script;
 use crate::session::first_of;
 use crate::step::Action;
-use crate::world::{Event, MISUSE, SOURCE, SharedWorld};
+use crate::world::{Event, Fault, SOURCE, SharedWorld};
 use futures::task::{Context, Poll};
 use futures::{Future, Stream};
 use futures_buffered_core::ready_shared::SharedWaker;
@@ -168,7 +168,7 @@ impl<T: Given> Scripted<T> {
         let given = T::given_by(action, &self.script.world);
         match &given {
             Some(value) => self.script.is_over = value.is_last(),
-            None => self.script.world.fail(MISUSE),
+            None => self.script.world.fail(Fault::Misuse),
         }
         given
     }

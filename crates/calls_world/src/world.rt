@@ -16,11 +16,14 @@ use std::rc::Rc;
 /// The number of the source, whose place is the first.
 pub const SOURCE: usize = 0;
 
-/// A value was named that there is not, or did this.
-pub const MISUSE: &str = "a value did what its kind does not";
-
-/// A request for memory was refused twice.
-pub const OUT_OF_MEMORY: &str = "out of memory";
+/// What goes wrong.
+#[derive(Clone, Copy)]
+pub enum Fault {
+    /// A value was named that there is not, or did what its kind does not.
+    Misuse,
+    /// A request for memory was refused twice.
+    Memory,
+}
 
 /// What a poll did with one value.
 #[derive(Clone, Copy, PartialEq, Eq)]
@@ -105,13 +108,13 @@ pub struct World {
     // Both ends of a one-shot were made, which takes memory, since effects were forgotten last.
     has_made_ends: bool,
     // What went wrong.
-    fault: Option<&'static str>,
+    fault: Option<Fault>,
 }
 
 impl World {
     fn need(&mut self, had_memory: bool) {
         if !had_memory {
-            self.fault = Some(OUT_OF_MEMORY);
+            self.fault = Some(Fault::Memory);
         }
     }
 
@@ -207,7 +210,7 @@ impl SharedWorld {
     pub fn share(&self) -> SharedWorld {
         let world = self.world.as_ref().and_then(|world| world.clone().ok());
         if world.is_none() {
-            self.fail(MISUSE);
+            self.fail(Fault::Misuse);
         }
         SharedWorld {
             alloc: self.alloc,
@@ -226,21 +229,21 @@ impl SharedWorld {
     }
 
     /// This went wrong, which the replies of the test say from now on.
-    pub fn fail(&self, fault: &'static str) {
+    pub fn fail(&self, fault: Fault) {
         if let Some(mut world) = self.open() {
             world.fault = Some(fault);
         }
     }
 
     /// What went wrong last in this test.
-    pub fn fault(&self) -> Option<&'static str> {
-        self.open().map_or(Some(MISUSE), |world| world.fault)
+    pub fn fault(&self) -> Option<Fault> {
+        self.open().map_or(Some(Fault::Misuse), |world| world.fault)
     }
 
     /// Memory was refused twice, unless there was some.
     pub fn need(&self, had_memory: bool) {
         if !had_memory {
-            self.fail(OUT_OF_MEMORY);
+            self.fail(Fault::Memory);
         }
     }
 
@@ -258,7 +261,7 @@ impl SharedWorld {
     pub fn make(&self, id: usize) -> Option<Rc<Vec<Step>>> {
         let steps = self.open().and_then(|mut world| world.make(id));
         if steps.is_none() {
-            self.fail(MISUSE);
+            self.fail(Fault::Misuse);
         }
         steps
     }
@@ -307,7 +310,7 @@ impl SharedWorld {
     pub fn keep(&self, id: usize, waker: &SharedWaker) {
         let kept = waker.try_clone().ok();
         if kept.is_none() {
-            self.fail(MISUSE);
+            self.fail(Fault::Misuse);
         }
         self.put_waker(id, kept);
     }
