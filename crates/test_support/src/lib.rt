@@ -18,7 +18,6 @@ pub mod polling;
 pub mod receiver;
 pub mod repeats;
 pub mod run_on;
-pub mod script;
 pub mod stage;
 pub mod sums;
 pub mod timed;
