@@ -8,10 +8,11 @@ use futures::task::Poll;
 use futures_buffered_core::ready_shared::{SharedReady, SharedWaker};
 use futures_buffered_held::oneshot::{Receiver, Sender, channel};
 use futures_buffered_unordered::{FuturesUnorderedBounded, SlotFuture};
-use std::alloc::{AllocError, AllocGlobal, Global};
+use std::alloc::AllocGlobal;
 use std::test::Fail;
 use std::thread::{self, JoinHandle, Threads};
 use test_support::keep::keep;
+use test_support::pairs::{add_pairs, pairs};
 
 const ROUNDS: u64 = 50_000;
 
@@ -19,20 +20,6 @@ impl Receives for Receiver<u64> {
     fn poll_with(&mut self, waker: &SharedWaker) -> Poll<Option<u64>> {
         self.poll(waker).map(|answer| answer.ok())
     }
-}
-
-fn add_one_shots(
-    alloc: Global,
-    senders: &mut Vec<Sender<u64>>,
-    receivers: &mut Vec<Receiver<u64>>,
-    count: u64,
-) -> Result<(), AllocError> {
-    for _ in 0..count {
-        let (sender, receiver) = channel(alloc)?;
-        keep(senders, sender)?;
-        keep(receivers, receiver)?;
-    }
-    Ok(())
 }
 
 // The last sender sends in the round.
@@ -59,8 +46,7 @@ impl Meets for (SharedReady, Vec<Receiver<u64>>) {
 #[test]
 fn no_wake_of_fifty_thousand_is_lost(rt: HostRuntime) -> Result<(), Fail> {
     let source = SharedReady::new(rt.alloc(), 1)?;
-    let (mut senders, mut receivers) = (Vec::new(rt.alloc()), Vec::new(rt.alloc()));
-    add_one_shots(rt.alloc(), &mut senders, &mut receivers, ROUNDS)?;
+    let (senders, receivers) = pairs(rt.alloc(), ROUNDS, || channel(rt.alloc()).ok())?;
     let lost = lost(&rt, ROUNDS, senders, &mut (source, receivers))?;
     assert_same(&rt, lost, 0);
     Ok(())
@@ -120,7 +106,7 @@ fn start_one<R: Threads + AllocGlobal>(
     receivers: &mut Vec<Receiver<u64>>,
 ) -> Result<JoinHandle<()>, Fail> {
     let mut senders = Vec::new(rt.alloc());
-    add_one_shots(rt.alloc(), &mut senders, receivers, 500)?;
+    add_pairs(&mut senders, receivers, 500, || channel(rt.alloc()).ok())?;
     Ok(thread::spawn(rt, move || send_all(senders))?)
 }
 

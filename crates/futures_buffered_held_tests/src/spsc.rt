@@ -12,8 +12,8 @@ use std::alloc::Global;
 use std::test::Fail;
 use test_support::counted_source::SourceLog;
 use test_support::held::Held;
-use test_support::keep::keep;
 use test_support::numbered::Numbered;
+use test_support::pairs::pairs;
 use test_support::polling::poll_next;
 use test_support::stage::plays_alone;
 
@@ -167,22 +167,6 @@ fn values_that_do_not_come_are_dropped_with_the_receiver(rt: HostRuntime) -> Res
     plays_alone(&rt, new_ends(rt.alloc(), 1, 20), after_the_sender)
 }
 
-/// Adds the ends of so many channels.
-pub fn add_channels(
-    alloc: Global,
-    senders: &mut Vec<Sender<u64>>,
-    receivers: &mut Vec<Receiver<u64>>,
-    count: u64,
-    capacity: usize,
-) -> Result<(), NewFault> {
-    for _ in 0..count {
-        let (sender, receiver) = channel(alloc, capacity)?;
-        keep(senders, sender)?;
-        keep(receivers, receiver)?;
-    }
-    Ok(())
-}
-
 // A merge of receivers, and their senders.
 #[derive(Drop)]
 struct Merged {
@@ -191,8 +175,7 @@ struct Merged {
 }
 
 fn new_merged(alloc: Global) -> Result<Merged, NewFault> {
-    let (mut senders, mut receivers) = (Vec::new(alloc), Vec::new(alloc));
-    add_channels(alloc, &mut senders, &mut receivers, 3, 4)?;
+    let (senders, receivers) = pairs(alloc, 3, || channel(alloc, 4).ok())?;
     let merge = MergeBounded::over(&(), alloc, receivers)?;
     Ok(Merged { senders, merge })
 }

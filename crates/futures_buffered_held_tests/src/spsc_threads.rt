@@ -3,13 +3,13 @@
 //! guide.
 use crate::rounds::{Acts, Meets, Receives, Rounds, comes, lost, polled, takes, turn_over};
 use crate::same::assert_same;
-use crate::spsc::add_channels;
 use futures::task::Poll;
 use futures_buffered_core::ready_shared::{SharedReady, SharedWaker};
 use futures_buffered_held::spsc::{Receiver, Sender, TryRecvError, channel};
 use futures_buffered_unordered::SlotStream;
 use std::test::Fail;
 use test_support::keep::keep;
+use test_support::pairs::pairs;
 
 const ROUNDS: u64 = 45_000;
 
@@ -88,8 +88,7 @@ impl Meets for (SharedReady, Vec<Receiver<u64>>) {
 #[test]
 fn nothing_of_forty_five_thousand_rounds_is_lost(rt: HostRuntime) -> Result<(), Fail> {
     let source = SharedReady::new(rt.alloc(), 1)?;
-    let (mut next, mut receivers) = (Vec::new(rt.alloc()), Vec::new(rt.alloc()));
-    add_channels(rt.alloc(), &mut next, &mut receivers, ROUNDS, 1)?;
+    let (next, receivers) = pairs(rt.alloc(), ROUNDS, || channel(rt.alloc(), 1).ok())?;
     let stay = Vec::new(rt.alloc());
     let lost = lost(&rt, ROUNDS, Senders { next, stay }, &mut (source, receivers))?;
     assert_same(&rt, lost, 0);

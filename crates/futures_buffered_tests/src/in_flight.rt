@@ -1,18 +1,18 @@
 //! What lines of calls cannot say of a set of the kit's futures: what its users hold of it, what `extend` draws, and
 //! whom a future that waits for the next output wakes.
-use crate::one_shots::one_shots;
 use crate::same::assert_same;
-use futures::channel::mpsc::{UnboundedReceiver, unbounded};
+use futures::channel::mpsc::unbounded;
 use futures::channel::oneshot::{Canceled, Receiver, Sender, channel};
 use futures::task::{Context, Poll};
 use futures::test::MockTask;
 use futures::{Future, StreamExt};
 use futures_buffered::in_flight::MergeBounded;
 use futures_buffered_in_flight::{FuturesOrderedBounded, FuturesUnorderedBounded, Kept, Key};
-use std::alloc::{AllocError, AllocGlobal, Global};
+use std::alloc::{AllocGlobal, Global};
 use std::process::Abort;
 use std::test::Fail;
 use test_support::keep::keep;
+use test_support::pairs::pairs;
 
 type Set = FuturesUnorderedBounded<Receiver<u64>>;
 
@@ -98,20 +98,11 @@ fn a_tag_of_text(rt: HostRuntime) -> Result<(), Fail> {
     task.enter(|cx| tagged(&rt, cx))
 }
 
-fn streams(alloc: Global, count: usize) -> Result<Vec<UnboundedReceiver<u64>>, AllocError> {
-    let mut streams = Vec::new(alloc);
-    for _ in 0..count {
-        let (_sender, stream) = unbounded::<u64>(alloc)?;
-        keep(&mut streams, stream)?;
-    }
-    Ok(streams)
-}
-
 // Whether `extend` was refused, how many are held then, and how many items it left.
 type Extended = (bool, usize, usize);
 
 fn set_extended(alloc: Global) -> Result<Extended, Fail> {
-    let (_senders, receivers) = one_shots(alloc, 5)?;
+    let (_senders, receivers) = pairs(alloc, 5, || channel::<u64>(alloc).ok())?;
     let mut items = receivers.into_iter();
     let mut set: Set = FuturesUnorderedBounded::new(alloc, 2)?;
     let is_refused = set.extend(&mut items).is_err();
@@ -119,7 +110,7 @@ fn set_extended(alloc: Global) -> Result<Extended, Fail> {
 }
 
 fn queue_extended(alloc: Global) -> Result<Extended, Fail> {
-    let (_senders, receivers) = one_shots(alloc, 5)?;
+    let (_senders, receivers) = pairs(alloc, 5, || channel::<u64>(alloc).ok())?;
     let mut items = receivers.into_iter();
     let mut queue: Queue = FuturesOrderedBounded::new(alloc, 2)?;
     let is_refused = queue.extend(&mut items).is_err();
@@ -127,7 +118,8 @@ fn queue_extended(alloc: Global) -> Result<Extended, Fail> {
 }
 
 fn merge_extended(alloc: Global) -> Result<Extended, Fail> {
-    let mut items = streams(alloc, 5)?.into_iter();
+    let (_senders, streams) = pairs(alloc, 5, || unbounded::<u64>(alloc).ok())?;
+    let mut items = streams.into_iter();
     let mut merge = MergeBounded::new(alloc, 2);
     let is_refused = merge.extend(&mut items).is_err();
     Ok((is_refused, merge.len(), items.len()))
@@ -155,7 +147,7 @@ fn waits<N: Future<Output: Drop>>(task: &MockTask, next: N) -> (bool, bool)
 #[test]
 fn the_next_is_waited_for(rt: HostRuntime) -> Result<(), Fail> {
     let task = MockTask::new(&rt)?;
-    let (_senders, receivers) = one_shots(rt.alloc(), 1)?;
+    let (_senders, receivers) = pairs(rt.alloc(), 1, || channel::<u64>(rt.alloc()).ok())?;
     let mut set = FuturesUnorderedBounded::from_iter(rt.alloc(), receivers)?;
     assert_same(&rt, waits(&task, set.next()), (true, false));
     Ok(())
@@ -165,7 +157,7 @@ fn the_next_is_waited_for(rt: HostRuntime) -> Result<(), Fail> {
 #[test]
 fn the_next_that_is_there_wakes_nobody(rt: HostRuntime) -> Result<(), Fail> {
     let task = MockTask::new(&rt)?;
-    let (mut senders, receivers) = one_shots(rt.alloc(), 2)?;
+    let (mut senders, receivers) = pairs(rt.alloc(), 2, || channel::<u64>(rt.alloc()).ok())?;
     let mut set = FuturesUnorderedBounded::from_iter(rt.alloc(), receivers)?;
     let sent = senders.pop().map(|sender| sender.send(5));
     assert_same(&rt, sent, Some(Ok(())));
@@ -176,7 +168,7 @@ fn the_next_that_is_there_wakes_nobody(rt: HostRuntime) -> Result<(), Fail> {
 #[test]
 fn the_next_with_its_key_is_waited_for(rt: HostRuntime) -> Result<(), Fail> {
     let task = MockTask::new(&rt)?;
-    let (_senders, receivers) = one_shots(rt.alloc(), 1)?;
+    let (_senders, receivers) = pairs(rt.alloc(), 1, || channel::<u64>(rt.alloc()).ok())?;
     let set = FuturesUnorderedBounded::from_iter(rt.alloc(), receivers)?;
     assert_same(&rt, waits(&task, set.into_next()), (true, false));
     Ok(())
@@ -185,7 +177,7 @@ fn the_next_with_its_key_is_waited_for(rt: HostRuntime) -> Result<(), Fail> {
 #[test]
 fn the_front_is_waited_for(rt: HostRuntime) -> Result<(), Fail> {
     let task = MockTask::new(&rt)?;
-    let (_senders, receivers) = one_shots(rt.alloc(), 1)?;
+    let (_senders, receivers) = pairs(rt.alloc(), 1, || channel::<u64>(rt.alloc()).ok())?;
     let queue: Queue = FuturesOrderedBounded::from_iter(rt.alloc(), receivers)?;
     assert_same(&rt, waits(&task, queue.into_next()), (true, false));
     Ok(())

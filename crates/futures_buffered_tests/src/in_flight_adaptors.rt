@@ -1,7 +1,6 @@
 //! What holds futures of the kit: a buffer, of futures that a thread completes, and the for-eaches.
-use crate::one_shots::one_shots;
 use crate::same::assert_same;
-use futures::channel::oneshot::Sender;
+use futures::channel::oneshot::{Sender, channel};
 use futures::executor::block_on;
 use futures::future::ready;
 use futures::{FutureExt, StreamExt, TryFutureExt, stream};
@@ -12,6 +11,7 @@ use std::test::Fail;
 use std::thread::yield_now;
 use test_support::counter::new_counter;
 use test_support::ends::ended_beside;
+use test_support::pairs::pairs;
 
 // The last of twenty is sent 0.
 fn send_all(senders: Vec<Sender<u64>>) {
@@ -23,7 +23,7 @@ fn send_all(senders: Vec<Sender<u64>>) {
 
 #[test]
 fn in_the_order_of_the_stream(rt: HostRuntime) -> Result<(), Fail> {
-    let (mut senders, receivers) = one_shots(rt.alloc(), 20)?;
+    let (mut senders, receivers) = pairs(rt.alloc(), 20, || channel(rt.alloc()).ok())?;
     senders.reverse();
     let outputs = stream::iter(receivers).buffered_ordered(rt.alloc(), 4)?;
     let all = outputs.collect(rt.alloc());

@@ -14,6 +14,7 @@ pub mod ends;
 pub mod held;
 pub mod keep;
 pub mod numbered;
+pub mod pairs;
 pub mod polling;
 pub mod receiver;
 pub mod repeats;
