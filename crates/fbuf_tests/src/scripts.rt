@@ -35,7 +35,12 @@ fn ends(
     let failed = (input.failed(), output.failed());
     let Sink { bytes, limits, .. } = output.into_inner();
     assert!(rt; replies.starts_with(bytes.as_slice()));
-    Ok((answer, failed, bytes.len(), writes.1.saturating_sub(limits.1)))
+    Ok((
+        answer,
+        failed,
+        bytes.len(),
+        writes.1.saturating_sub(limits.1),
+    ))
 }
 
 #[test]
@@ -62,7 +67,11 @@ fn assert_beginning(
     writes: usize,
 ) -> Result<(), Fail> {
     let ended = ends(rt, lines, ROOMY, (1, writes))?;
-    assert_same(rt, ended, (Err(ScriptFault::Write), (false, true), writes, writes));
+    assert_same(
+        rt,
+        ended,
+        (Err(ScriptFault::Write), (false, true), writes, writes),
+    );
     Ok(())
 }
 
@@ -89,7 +98,12 @@ fn a_line_of_a_million_bytes_is_one_bad(rt: HostRuntime) -> Result<(), Fail> {
     text.extend_from_slice(b"unordered 1\n")?;
     text.extend_from_slice(line.as_slice())?;
     text.extend_from_slice(b"\nlen\n")?;
-    let ended = ends(&rt, (text.as_slice(), b"ok\nbad\n0\n".as_slice()), ROOMY, ROOMY)?;
+    let ended = ends(
+        &rt,
+        (text.as_slice(), b"ok\nbad\n0\n".as_slice()),
+        ROOMY,
+        ROOMY,
+    )?;
     assert_same(&rt, ended, (Ok(()), (false, false), 9, 1));
     Ok(())
 }
@@ -171,7 +185,11 @@ fn assert_parts(
     writes: usize,
 ) -> Result<(), Fail> {
     let (answer, failed, bytes, made) = ends(rt, lines, ROOMY, (usize::MAX, writes))?;
-    assert_same(rt, (answer, failed, made), (Err(ScriptFault::Write), (false, true), writes));
+    assert_same(
+        rt,
+        (answer, failed, made),
+        (Err(ScriptFault::Write), (false, true), writes),
+    );
     let least = writes.saturating_mul(PART);
     assert!(rt; bytes >= least);
     assert!(rt; bytes < least.saturating_add(writes.saturating_mul(LONGEST)));

@@ -51,7 +51,8 @@ impl Gate for Meeting {
     }
 
     fn after(&self, thread: usize, wake: usize) {
-        self.passages.fetch_add(1u64 << (32 * thread + 16 * wake + 8), SeqCst);
+        self.passages
+            .fetch_add(1u64 << (32 * thread + 16 * wake + 8), SeqCst);
     }
 }
 

@@ -136,7 +136,9 @@ fn two_thousand_while_they_are_polled(rt: HostRuntime) -> Result<(), Fail> {
     let all = block_on(&rt, set.collect(rt.alloc()))??;
     end(&rt, threads);
     // A sender that left counts as a thousand.
-    let sum = all.iter().fold(0u64, |sum, one| sum.saturating_add(one.unwrap_or(1_000)));
+    let sum = all
+        .iter()
+        .fold(0u64, |sum, one| sum.saturating_add(one.unwrap_or(1_000)));
     assert_same(&rt, (all.len(), sum), (2_000, 499_000));
     Ok(())
 }

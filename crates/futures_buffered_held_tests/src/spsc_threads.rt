@@ -90,7 +90,12 @@ fn nothing_of_forty_five_thousand_rounds_is_lost(rt: HostRuntime) -> Result<(), 
     let source = SharedReady::new(rt.alloc(), 1)?;
     let (next, receivers) = pairs(rt.alloc(), ROUNDS, || channel(rt.alloc(), 1).ok())?;
     let stay = Vec::new(rt.alloc());
-    let lost = lost(&rt, ROUNDS, Senders { next, stay }, &mut (source, receivers))?;
+    let lost = lost(
+        &rt,
+        ROUNDS,
+        Senders { next, stay },
+        &mut (source, receivers),
+    )?;
     assert_same(&rt, lost, 0);
     Ok(())
 }

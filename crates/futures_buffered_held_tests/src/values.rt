@@ -1,8 +1,8 @@
 //! Values, closures, one of two, and the items of an iterator. `one_of_two_is_polled` has a value in a set too.
 use crate::same::assert_same;
+use futures::Stream;
 use futures::task::Poll;
 use futures::test::MockTask;
-use futures::Stream;
 use futures_buffered_core::ready_shared::{SharedReady, SharedWaker};
 use futures_buffered_core::ready_source::SlotWaker;
 use futures_buffered_held::Either;

@@ -81,7 +81,11 @@ fn try_tags(
     assert_same(rt, cancels(set, first, "one"), false);
     assert_same(rt, comes(cx, set, senders, 3, "three"), third);
     assert_same(rt, comes(cx, set, senders, 2, "two"), second);
-    assert_same(rt, first.ok() < second.ok() && second.ok() < third.ok(), true);
+    assert_same(
+        rt,
+        first.ok() < second.ok() && second.ok() < third.ok(),
+        true,
+    );
     Ok(())
 }
 

@@ -27,7 +27,10 @@ fn outputs_as_they_finish_while_a_thread_wakes(rt: HostRuntime) -> Result<(), Fa
 // The last in the stream is sent first.
 #[test]
 fn outputs_in_order_while_a_thread_wakes(rt: HostRuntime) -> Result<(), Fail> {
-    let Cells { mut senders, receivers } = new_cells(&rt, rt.alloc(), 4)?;
+    let Cells {
+        mut senders,
+        receivers,
+    } = new_cells(&rt, rt.alloc(), 4)?;
     senders.reverse();
     let buffer = stream::iter(receivers).buffered_ordered(rt.alloc(), 2)?;
     let outputs = buffer.collect(rt.alloc());

@@ -89,7 +89,9 @@ impl<H: Held> Stage<H> {
         for (place, step) in script.split(", ").enumerate() {
             let (word, number) = step.split_once(' ').unwrap_or((step, "0"));
             if !self.does(word, number.parse().unwrap_or(u64::MAX)) {
-                return Err(Fail::new(format_args!("step {place} does not do what it says: {step}")));
+                return Err(Fail::new(format_args!(
+                    "step {place} does not do what it says: {step}"
+                )));
             }
         }
         Ok(())
