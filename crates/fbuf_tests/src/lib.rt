@@ -2,16 +2,10 @@
 #![tactic(auto)]
 
 #[cfg(test)]
-mod failing;
-#[cfg(test)]
 mod fakes;
 #[cfg(test)]
-mod flushes;
-#[cfg(test)]
-mod long_scripts;
-#[cfg(test)]
-mod outcome;
-#[cfg(test)]
 mod same;
+#[cfg(test)]
+mod scripts;
 #[cfg(test)]
 mod threads;

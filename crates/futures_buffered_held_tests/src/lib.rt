@@ -3,15 +3,12 @@
 //!
 //! - `values`: values, closures, one of two, and the items of an iterator.
 //! - `oneshots`: what a one-shot answers, whom it wakes, and what is dropped.
-//! - `oneshot_threads`, `oneshot_rounds`: one-shots that are sent from threads, and a send and a poll that meet in one
-//!   round after another.
+//! - `oneshot_threads`: one-shots that are sent from threads.
 //! - `spsc`, `spsc_threads`: channels from one sender, also if that is on a thread.
-//! - `steps`: scripts of what a test does with two ends, and what comes of it.
-//! - `rounds`, `same`: rounds in which a thread acts, what a source names, and an assertion as a call.
+//! - `slots`: the slots at which scripts poll a receiver. `rounds`: rounds in which a thread and its test act at once.
+//!   `same`: an assertion as a call.
 #![tactic(auto)]
 
-#[cfg(test)]
-mod oneshot_rounds;
 #[cfg(test)]
 mod oneshot_threads;
 #[cfg(test)]
@@ -21,10 +18,10 @@ mod rounds;
 #[cfg(test)]
 mod same;
 #[cfg(test)]
+mod slots;
+#[cfg(test)]
 mod spsc;
 #[cfg(test)]
 mod spsc_threads;
-#[cfg(test)]
-mod steps;
 #[cfg(test)]
 mod values;

@@ -1,42 +1,102 @@
-//! One-shots that are sent from four threads.
+//! One-shots that are sent from threads: in a set that is polled meanwhile, and in one round after another, in which a
+//! send and a poll meet at a new one-shot. And a sender looks for its receiver while that is polled.
+use crate::rounds::{Acts, Meets, Receives, Rounds, comes, lost, polled};
 use crate::same::assert_same;
 use futures::StreamExt;
 use futures::executor::block_on;
-use futures_buffered_held::oneshot::{Canceled, Receiver, Sender, channel};
-use futures_buffered_unordered::FuturesUnorderedBounded;
-use std::alloc::{AllocError, AllocGlobal, Global};
+use futures::task::Poll;
+use futures_buffered_core::ready_shared::{SharedReady, SharedWaker};
+use futures_buffered_held::oneshot::{Receiver, Sender, channel};
+use futures_buffered_unordered::{FuturesUnorderedBounded, SlotFuture};
+use std::alloc::AllocGlobal;
 use std::test::Fail;
 use std::thread::{self, JoinHandle, Threads};
 use test_support::keep::keep;
+use test_support::pairs::{add_pairs, pairs};
 
-type Numbered = (u64, Sender<u64>);
+const ROUNDS: u64 = 50_000;
 
-type Answer = Result<u64, Canceled>;
-
-// Numbers 0 to 99 in a mixed order, since 37 and 100 have no common divisor.
-fn mixed(n: u64) -> u64 {
-    n.wrapping_mul(37).wrapping_add(11) % 100
+impl Receives for Receiver<u64> {
+    fn poll_with(&mut self, waker: &SharedWaker) -> Poll<Option<u64>> {
+        self.poll(waker).map(|answer| answer.ok())
+    }
 }
 
-// Receivers of the numbers `from` to `to`, in a mixed order, and their senders.
-fn fill(
-    alloc: Global,
-    receivers: &mut Vec<Receiver<u64>>,
-    senders: &mut Vec<Numbered>,
-    from: u64,
-    to: u64,
-) -> Result<(), AllocError> {
-    for n in from..to {
-        let (sender, receiver) = channel(alloc)?;
-        keep(receivers, receiver)?;
-        keep(senders, (mixed(n), sender))?;
+// The last sender sends in the round.
+impl Acts for Vec<Sender<u64>> {
+    fn acts(&mut self, round: u64) -> bool {
+        match self.pop() {
+            Some(sender) => sender.send(round).is_ok(),
+            None => false,
+        }
     }
+}
+
+// The last receiver is that of the round.
+impl Meets for (SharedReady, Vec<Receiver<u64>>) {
+    fn meets(&mut self, rounds: &Rounds, round: u64) -> bool {
+        let (source, receivers) = self;
+        match receivers.pop() {
+            Some(mut receiver) => comes(source, rounds, &mut receiver, round, Some(round)),
+            None => false,
+        }
+    }
+}
+
+#[test]
+fn no_wake_of_fifty_thousand_is_lost(rt: HostRuntime) -> Result<(), Fail> {
+    let source = SharedReady::new(rt.alloc(), 1)?;
+    let (senders, receivers) = pairs(rt.alloc(), ROUNDS, || channel(rt.alloc()).ok())?;
+    let lost = lost(&rt, ROUNDS, senders, &mut (source, receivers))?;
+    assert_same(&rt, lost, 0);
     Ok(())
 }
 
-fn send_all(senders: Vec<Numbered>) {
-    for (n, sender) in senders {
-        let _ = sender.send(n);
+// How often the sender looks in a round, and how many rounds there are.
+const LOOKS: u64 = 100;
+
+const LOOKING_ROUNDS: u64 = 2_000;
+
+// Looks for the receiver. Whether it is there each time.
+impl Acts for Sender<u64> {
+    fn acts(&mut self, _round: u64) -> bool {
+        for _ in 0..LOOKS {
+            if self.is_canceled() {
+                return false;
+            }
+        }
+        true
+    }
+}
+
+// Polls until the sender has looked.
+impl Meets for (SharedReady, Receiver<u64>) {
+    fn meets(&mut self, rounds: &Rounds, round: u64) -> bool {
+        let (source, receiver) = self;
+        rounds.begin(round);
+        for _ in 0..u64::MAX {
+            if rounds.is_over(round) {
+                return true;
+            }
+            let _came = polled(source, 0, receiver);
+        }
+        false
+    }
+}
+
+#[test]
+fn a_receiver_that_is_polled_is_not_gone(rt: HostRuntime) -> Result<(), Fail> {
+    let source = SharedReady::new(rt.alloc(), 1)?;
+    let (sender, receiver) = channel(rt.alloc())?;
+    let lost = lost(&rt, LOOKING_ROUNDS, sender, &mut (source, receiver))?;
+    assert_same(&rt, lost, 0);
+    Ok(())
+}
+
+// The sender at each place sends its place.
+fn send_all(senders: Vec<Sender<u64>>) {
+    for (place, sender) in senders.into_iter().enumerate() {
+        let _ = sender.send(place as u64);
     }
 }
 
@@ -44,16 +104,9 @@ fn send_all(senders: Vec<Numbered>) {
 fn start_one<R: Threads + AllocGlobal>(
     rt: &R,
     receivers: &mut Vec<Receiver<u64>>,
-    from: u64,
 ) -> Result<JoinHandle<()>, Fail> {
     let mut senders = Vec::new(rt.alloc());
-    fill(
-        rt.alloc(),
-        receivers,
-        &mut senders,
-        from,
-        from.saturating_add(500),
-    )?;
+    add_pairs(&mut senders, receivers, 500, || channel(rt.alloc()).ok())?;
     Ok(thread::spawn(rt, move || send_all(senders))?)
 }
 
@@ -62,9 +115,8 @@ fn start<R: Threads + AllocGlobal>(
     receivers: &mut Vec<Receiver<u64>>,
     threads: &mut Vec<JoinHandle<()>>,
 ) -> Result<(), Fail> {
-    for part in 0..4 {
-        let thread = start_one(rt, receivers, part * 500)?;
-        keep(threads, thread)?;
+    for _ in 0..4 {
+        keep(threads, start_one(rt, receivers)?)?;
     }
     Ok(())
 }
@@ -75,12 +127,6 @@ fn end<R: Threads>(rt: &R, threads: Vec<JoinHandle<()>>) {
     }
 }
 
-// A sender that left counts as a thousand.
-fn sum_of(all: &Vec<Answer>) -> u64 {
-    all.iter()
-        .fold(0u64, |sum, one| sum.saturating_add(one.unwrap_or(1_000)))
-}
-
 // A thread sends while the task polls, so that sends and polls meet at a one-shot in many orders.
 #[test]
 fn two_thousand_while_they_are_polled(rt: HostRuntime) -> Result<(), Fail> {
@@ -89,6 +135,10 @@ fn two_thousand_while_they_are_polled(rt: HostRuntime) -> Result<(), Fail> {
     let set = FuturesUnorderedBounded::from_iter(rt.alloc(), receivers)?;
     let all = block_on(&rt, set.collect(rt.alloc()))??;
     end(&rt, threads);
-    assert_same(&rt, (all.len(), sum_of(&all)), (2_000, 99_000));
+    // A sender that left counts as a thousand.
+    let sum = all
+        .iter()
+        .fold(0u64, |sum, one| sum.saturating_add(one.unwrap_or(1_000)));
+    assert_same(&rt, (all.len(), sum), (2_000, 499_000));
     Ok(())
 }

@@ -3,43 +3,46 @@
 ghost use Rattle.std.specs.Prelude.{◌≡◌, IfOk, IfSome};
 
 use crate::same::assert_same;
-use crate::steps::{Came, Ends, plays};
+use crate::slots::{NO_POLL, Slots};
 use futures::task::Poll;
+use futures::test::MockTask;
+use futures_buffered_core::ready_core::NewFault;
 use futures_buffered_core::ready_shared::{SharedReady, SharedWaker};
 use futures_buffered_held::oneshot::{Canceled, Receipt, Receiver, Sender, channel};
 use futures_buffered_unordered::SlotFuture;
 use std::alloc::{AllocError, Global};
-use std::sync::atomic::Ordering::SeqCst;
 use std::test::Fail;
-use test_support::counter::{Counter, new_counter};
+use test_support::counted_source::SourceLog;
+use test_support::held::Held;
 use test_support::numbered::Numbered;
+use test_support::stage::plays_alone;
 
-// The two ends, what a refused sending gave back, and a receipt.
+// The two ends, what a refused sending gave back, a receipt, and the slots of the receiver.
 #[derive(Drop)]
 struct OneShot {
     sender: Option<Sender<Numbered>>,
     receiver: Option<Receiver<Numbered>>,
-    drops: Counter,
     back: Option<Numbered>,
     receipt: Option<Receipt<Numbered>>,
+    slots: Slots,
 }
 
-fn new_ends(alloc: Global) -> Result<OneShot, Fail> {
-    let drops = new_counter(alloc)?;
+fn new_ends(alloc: Global, slots: usize) -> Result<OneShot, NewFault> {
+    let slots = Slots::new(alloc, slots)?;
     let (sender, receiver) = channel(alloc)?;
     Ok(OneShot {
         sender: Some(sender),
         receiver: Some(receiver),
-        drops,
         back: None,
         receipt: None,
+        slots,
     })
 }
 
 impl OneShot {
     // Whether the sender took the value. One that is refused is kept.
-    fn send(&mut self, n: u64) -> Option<bool> {
-        let value = Numbered::new(&self.drops, n).ok()?;
+    fn send(&mut self, log: &SourceLog, n: u64) -> Option<bool> {
+        let value = Numbered::new(&log.items, n).ok()?;
         self.back = match self.sender.take() {
             Some(sender) => sender.send(value).err(),
             None => Some(value),
@@ -48,8 +51,8 @@ impl OneShot {
     }
 
     // The same, with a receipt, which is kept.
-    fn send_with_receipt(&mut self, n: u64) -> Option<bool> {
-        let value = Numbered::new(&self.drops, n).ok()?;
+    fn send_with_receipt(&mut self, log: &SourceLog, n: u64) -> Option<bool> {
+        let value = Numbered::new(&log.items, n).ok()?;
         self.receipt = match self.sender.take() {
             Some(sender) => sender.send_with_receipt(value).ok(),
             None => None,
@@ -62,64 +65,61 @@ impl OneShot {
     }
 }
 
-impl Ends for OneShot {
-    fn poll(&mut self, waker: &SharedWaker) -> Option<Came> {
-        match self.receiver.as_mut()?.poll(waker) {
-            Poll::Pending => Some(Came::Pending),
-            Poll::Ready(Ok(value)) => Some(Came::Item(value.number)),
-            Poll::Ready(Err(Canceled)) => Some(Came::End),
-        }
-    }
-
-    fn sends(&mut self, value: u64) -> bool {
-        self.send(value) == Some(true)
-    }
-
-    fn does(&mut self, word: &str, n: u64) -> bool {
+impl Held for OneShot {
+    fn does(&mut self, log: &SourceLog, word: &str, n: u64) -> bool {
         match word {
-            "refused" => self.send(n) == Some(false),
-            "receipt" => self.send_with_receipt(n) == Some(true),
+            "send" => self.send(log, n) == Some(true),
+            "refused" => self.send(log, n) == Some(false),
+            "receipt" => self.send_with_receipt(log, n) == Some(true),
             "is_open" => self.is_canceled() == Some(false),
             "is_canceled" => self.is_canceled() == Some(true),
-            "drops" => self.drops.load(SeqCst) == n,
             "drop_sender" => self.sender.take().is_some(),
             "drop_receiver" => self.receiver.take().is_some(),
             "drop_back" => self.back.take().is_some(),
             "drop_receipt" => self.receipt.take().is_some(),
-            _ => false,
+            _ => self.slots.does(word, n),
         }
+    }
+
+    fn polled(&mut self, task: &MockTask) -> Poll<Option<u64>> {
+        let (Some(waker), Some(receiver)) = (self.slots.waker(task), self.receiver.as_mut()) else {
+            return NO_POLL;
+        };
+        receiver
+            .poll(&waker)
+            .map(|answer| answer.ok().map(|value| value.number))
     }
 }
 
 // The poll that gives the value leaves its slot as it is.
 #[test]
 fn the_waker_of_the_last_poll_is_woken(rt: HostRuntime) -> Result<(), Fail> {
-    let script = "pending, at 1, pending, send 7, slot 1, no_slot, item 7, no_slot, end, no_slot";
-    plays(&rt, 2, new_ends(rt.alloc()), script)
+    let script = "pending, at 1, pending, send 7, slot 1, no_slot, gives 7, no_slot, none, no_slot";
+    plays_alone(&rt, new_ends(rt.alloc(), 2), script)
 }
 
 // The poll that says so leaves its slot as it is.
 #[test]
 fn a_sender_that_goes_wakes_a_late_slot_once(rt: HostRuntime) -> Result<(), Fail> {
-    let script = "at 100, pending, drop_sender, slot 100, end, no_slot";
-    plays(&rt, 130, new_ends(rt.alloc()), script)
+    let script = "at 100, pending, drop_sender, slot 100, none, no_slot";
+    plays_alone(&rt, new_ends(rt.alloc(), 130), script)
 }
 
 // The slot has the same number in both sources.
 #[test]
 fn a_receiver_that_moved_to_another_source(rt: HostRuntime) -> Result<(), Fail> {
     let script = "pending, swap, pending, send 7, slot 0, swap, no_slot";
-    plays(&rt, 1, new_ends(rt.alloc()), script)
+    plays_alone(&rt, new_ends(rt.alloc(), 1), script)
 }
 
 // A value that does not come is dropped with the receiver, whoever keeps the receipt, and one that is handed back by
 // whoever has it.
 #[test]
 fn a_value_that_does_not_come(rt: HostRuntime) -> Result<(), Fail> {
-    let taken = "receipt 7, drops 0, drop_receiver, drops 1, drop_receipt, drops 1";
-    plays(&rt, 1, new_ends(rt.alloc()), taken)?;
-    let refused = "is_open, drop_receiver, is_canceled, refused 7, drops 0, drop_back, drops 1";
-    plays(&rt, 1, new_ends(rt.alloc()), refused)
+    let taken = "receipt 7, items 0, drop_receiver, items 1, drop_receipt, items 1";
+    plays_alone(&rt, new_ends(rt.alloc(), 1), taken)?;
+    let refused = "is_open, drop_receiver, is_canceled, refused 7, items 0, drop_back, items 1";
+    plays_alone(&rt, new_ends(rt.alloc(), 1), refused)
 }
 
 // What a poll gives after a send is what was sent.

@@ -1,9 +1,8 @@
 //! Values, closures, one of two, and the items of an iterator. `one_of_two_is_polled` has a value in a set too.
 use crate::same::assert_same;
-use futures::executor::block_on;
+use futures::Stream;
 use futures::task::Poll;
 use futures::test::MockTask;
-use futures::{Stream, StreamExt};
 use futures_buffered_core::ready_shared::{SharedReady, SharedWaker};
 use futures_buffered_core::ready_source::SlotWaker;
 use futures_buffered_held::Either;
@@ -14,6 +13,7 @@ use futures_buffered_unordered::{FuturesUnorderedBounded, MergeBounded, SlotFutu
 use std::alloc::AllocGlobal;
 use std::random::RandomSource;
 use std::test::Fail;
+use test_support::ends::collected;
 use test_support::polling::poll_next;
 
 #[test]
@@ -27,17 +27,15 @@ fn a_value_is_given_once(rt: HostRuntime) -> Result<(), Fail> {
 }
 
 // What a poll before the sender has sent 21 returns, and one after that.
-fn polls_around<R, St>(
-    rt: &R,
-    set: St,
+fn polls_around<St>(
+    rt: &(impl RandomSource + AllocGlobal),
+    mut set: St,
     sender: Sender<u64>,
 ) -> Result<(Poll<Option<St::Item>>, Poll<Option<St::Item>>), Fail>
 where
-    R: RandomSource + AllocGlobal,
     St: Stream<Item: Drop> + Drop,
     requires { (stream : St) → St.can_poll stream }
 {
-    let mut set = set;
     let task = MockTask::new(rt)?;
     let before = poll_next(&task, &mut set);
     let _ = sender.send(21);
@@ -86,11 +84,8 @@ fn one_of_two_is_polled(rt: HostRuntime) -> Result<(), Fail> {
     let futures = vec![in rt.alloc(); Either::Left(receiver), Either::Right(ready(Ok(6)))]?;
     let set = FuturesUnorderedBounded::from_iter(rt.alloc(), futures)?;
     let polled = polls_around(&rt, set, sender)?;
-    assert_same(
-        &rt,
-        polled,
-        (Poll::Ready(Some(Ok(6))), Poll::Ready(Some(Ok(21)))),
-    );
+    let wanted = (Poll::Ready(Some(Ok(6))), Poll::Ready(Some(Ok(21))));
+    assert_same(&rt, polled, wanted);
     Ok(())
 }
 
@@ -101,7 +96,7 @@ fn items_of_iterators_take_turns(rt: HostRuntime) -> Result<(), Fail> {
         Either::Right(iter(Some(10u64))),
     ]?;
     let merge = MergeBounded::from_iter(rt.alloc(), streams)?;
-    let items = block_on(&rt, merge.collect(rt.alloc()))??;
-    assert_same(&rt, items.as_slice() == [1, 10, 2].as_slice(), true);
+    let items = collected(&rt, merge)??;
+    assert_same(&rt, items.as_slice(), [1, 10, 2].as_slice());
     Ok(())
 }

@@ -1,10 +1,10 @@
 // A stream that contains a closure, under a for-each.
-use crate::ready_at_once::ReadyAtOnce;
 use crate::same::assert_same;
 use futures::executor::block_on;
 use futures::task::Poll;
 use futures::test::MockTask;
 use futures::{Future, StreamExt, stream};
+use futures_buffered::future::ready;
 use futures_buffered::{BufferedStreamExt, NewFault};
 use std::alloc::{AllocGlobal, Global};
 use std::process::Abort;
@@ -12,21 +12,18 @@ use std::random::RandomSource;
 use std::sync::atomic::Ordering::SeqCst;
 use std::sync::{Arc, Wait};
 use std::test::Fail;
-use test_support::begin::task_and_counter;
+use test_support::begin::task_and_log;
+use test_support::counted_source::SourceLog;
 use test_support::counter::{Counter, new_counter};
 use test_support::dropped::Dropped;
 use test_support::run_on::run_on;
 
 // Adds the double of each of three numbers.
-fn add_doubles<R>(rt: &R, sum: Counter) -> Result<(), Fail>
-where
-    R: Wait + RandomSource + AllocGlobal,
-{
-    let numbers = vec![in rt.alloc(); 1, 2, 3]?;
-    let doubles = stream::iter(numbers).map(|number: u64| number.wrapping_mul(2));
+fn add_doubles(rt: &(impl Wait + RandomSource + AllocGlobal), sum: Counter) -> Result<(), Fail> {
+    let doubles = stream::iter(1..4u64).map(|number: u64| number.wrapping_mul(2));
     let call = move |double: u64| {
         sum.fetch_add(double, SeqCst);
-        ReadyAtOnce
+        ready(())
     };
     let each = BufferedStreamExt::for_each_concurrent(doubles, rt.alloc(), 2, call)?;
     Ok(block_on(rt, each)?)
@@ -41,52 +38,50 @@ fn a_map_under_for_each_concurrent(rt: HostRuntime) -> Result<(), Fail> {
 }
 
 // A closure holds the mark.
-fn drops_its_closure<R: Abort + AllocGlobal>(
-    rt: &R,
+fn drops_its_closure(
+    rt: &(impl Abort + AllocGlobal),
     task: &MockTask,
-    drops: &Counter,
+    log: &SourceLog,
     mark: Dropped,
 ) -> Result<(), Fail> {
     let call = move |_number: u64| {
         let _ = &mark;
-        ReadyAtOnce
+        ready(())
     };
-    let numbers = stream::iter(vec![in rt.alloc(); 1, 2, 3]?);
+    let numbers = stream::iter(1..4u64);
     let mut each = BufferedStreamExt::for_each_concurrent(numbers, rt.alloc(), 2, call)?;
     let ended = task.enter(|cx| each.poll(cx));
-    assert_same(rt, (ended, drops.load(SeqCst)), (Poll::Ready(()), 0));
+    assert_same(rt, (ended, log.items.load(SeqCst)), (Poll::Ready(()), 0));
     drop(each);
-    assert_same(rt, drops.load(SeqCst), 1);
+    assert_same(rt, log.items.load(SeqCst), 1);
     Ok(())
 }
 
 // What the closure holds goes with the for-each, also with one that ended before.
 #[test]
 fn a_for_each_drops_its_closure(rt: HostRuntime) -> Result<(), Fail> {
-    run_on(task_and_counter(&rt), |(task, drops)| {
-        let mark = Dropped::new(Arc::try_clone(drops)?);
-        drops_its_closure(&rt, task, drops, mark)
-    })
+    run_on(
+        task_and_log(&rt),
+        |(task, log)| drops_its_closure(&rt, task, log, log.dropped()?),
+    )
 }
 
 // Why a for-each without a bound is refused, if it is. A closure holds the mark.
-fn fault_of(alloc: Global, mark: Dropped) -> Result<Option<NewFault>, Fail> {
+fn fault_of(alloc: Global, mark: Dropped) -> Option<NewFault> {
     let call = move |_number: u64| {
         let _ = &mark;
-        ReadyAtOnce
+        ready(())
     };
-    let numbers = stream::iter(vec![in alloc; 1, 2, 3]?);
-    let refused = BufferedStreamExt::for_each_concurrent(numbers, alloc, usize::MAX, call);
-    Ok(refused.err())
+    let numbers = stream::iter(1..4u64);
+    BufferedStreamExt::for_each_concurrent(numbers, alloc, usize::MAX, call).err()
 }
 
 // What the closure holds goes with it.
 #[test]
 fn a_refused_closure_is_dropped(rt: HostRuntime) -> Result<(), Fail> {
-    let drops = new_counter(rt.alloc())?;
-    let mark = Dropped::new(Arc::try_clone(&drops)?);
-    let fault = fault_of(rt.alloc(), mark)?;
+    let log = SourceLog::new(rt.alloc())?;
+    let fault = fault_of(rt.alloc(), log.dropped()?);
     assert_same(&rt, fault, Some(NewFault::TooLarge));
-    assert_same(&rt, drops.load(SeqCst), 1);
+    assert_same(&rt, log.items.load(SeqCst), 1);
     Ok(())
 }

@@ -2,17 +2,17 @@
 ghost use Rattle.std.specs.Prelude.{◌≡◌, ◌+◌, ◌≤◌};
 ghost use Rattle.futures_buffered.specs.FuturesUnorderedBounded.{held_in, slots_in};
 
-use crate::ready_at_once::ReadyAtOnce;
 use crate::same::assert_same;
+use futures_buffered::future::{Ready, ready};
 use futures_buffered::{FuturesUnorderedBounded, SharedReady};
 use std::test::Fail;
 
-fn push_four(set: &mut FuturesUnorderedBounded<ReadyAtOnce, SharedReady>)
+fn push_four(set: &mut FuturesUnorderedBounded<Ready<()>, SharedReady>)
     requires { held_in set.old + 4 ≤ slots_in set.old }
     ensures { held_in set.new ≡ held_in set.old + 4 }
 {
     for _number in 0..4usize {
-        set.push(ReadyAtOnce);
+        set.push(ready(()));
     }
 }
 

@@ -1,5 +1,5 @@
 //! Rows of cells that are sent one value each.
-use crate::keep::keep;
+use crate::pairs::pairs;
 use crate::receiver::{Receiver, Sender, one_shot};
 use std::alloc::{AllocError, Global};
 use std::sync::Wait;
@@ -11,29 +11,13 @@ pub struct Cells<T, R> {
     pub receivers: Vec<Receiver<T, R>>,
 }
 
-fn add_cell<T: Drop, R: Clone + Drop>(
-    rt: &R,
-    alloc: Global,
-    cells: &mut Cells<T, R>,
-) -> Result<(), AllocError> {
-    let (sender, receiver) = one_shot(rt, alloc)?;
-    keep(&mut cells.senders, sender)?;
-    keep(&mut cells.receivers, receiver)
-}
-
 pub fn new_cells<T: Drop, R: Clone + Drop>(
     rt: &R,
     alloc: Global,
     count: usize,
 ) -> Result<Cells<T, R>, AllocError> {
-    let mut cells = Cells {
-        senders: Vec::new(alloc),
-        receivers: Vec::new(alloc),
-    };
-    for _ in 0..count {
-        add_cell(rt, alloc, &mut cells)?;
-    }
-    Ok(cells)
+    let (senders, receivers) = pairs(alloc, count as u64, || one_shot(rt, alloc).ok())?;
+    Ok(Cells { senders, receivers })
 }
 
 /// Each sender in turn sends its value.

@@ -12,12 +12,13 @@ use futures_buffered_core::ready_core::{MAX_CAPACITY, NewFault, Taken, Woke};
 use futures_buffered_core::ready_source::{NewSource, ReadySource};
 use std::alloc::{AllocError, Global};
 use std::marker::Model;
+use std::sync::atomic::AtomicU64;
 use std::sync::atomic::Ordering::SeqCst;
 use std::sync::{Arc, Mutex};
 
 /// What a test sees of its sources. A source that is dropped wakes nobody while this is kept, since the task's waker
 /// stays here.
-#[derive(Drop)]
+#[derive(Clone, Drop)]
 pub struct SourceLog {
     pub drops: Counter,
     pub registrations: Counter,
@@ -36,35 +37,18 @@ impl SourceLog {
 
     /// Of so many sources, and no more.
     pub fn of(alloc: Global, sources: u64) -> Result<SourceLog, AllocError> {
-        let drops = new_counter(alloc)?;
-        let registrations = new_counter(alloc)?;
-        let items = new_counter(alloc)?;
-        let left = new_counter(alloc)?;
-        left.store(sources, SeqCst);
-        let task = Arc::new(alloc, Mutex::new(None))?;
         Ok(SourceLog {
-            drops,
-            registrations,
-            items,
-            left,
-            task,
+            drops: new_counter(alloc)?,
+            registrations: new_counter(alloc)?,
+            items: new_counter(alloc)?,
+            left: Arc::new(alloc, AtomicU64::new(sources))?,
+            task: Arc::new(alloc, Mutex::new(None))?,
         })
     }
 
     /// The same log.
     pub fn try_clone(&self) -> Result<SourceLog, AllocError> {
-        let drops = Arc::try_clone(&self.drops)?;
-        let registrations = Arc::try_clone(&self.registrations)?;
-        let items = Arc::try_clone(&self.items)?;
-        let left = Arc::try_clone(&self.left)?;
-        let task = Arc::try_clone(&self.task)?;
-        Ok(SourceLog {
-            drops,
-            registrations,
-            items,
-            left,
-            task,
-        })
+        self.clone()
     }
 
     /// Returns a part of a future or a stream. The part counts its drop in `items`.

@@ -48,10 +48,7 @@ impl<S: ReadySource> Held for FuturesUnorderedBounded<Timed, S> {
             "slots" => self.capacity() as u64 == n,
             "marks" => fresh_marks(self, n) == n,
             "marked" => fresh_marks(self, n) == 0,
-            _ => match timed(word, n) {
-                Some(future) => self.try_push(future).is_ok(),
-                None => false,
-            },
+            _ => timed(word, n).is_some_and(|future| self.try_push(future).is_ok()),
         }
     }
 
@@ -69,10 +66,7 @@ impl<S: NewSource> Held for FuturesUnordered<Timed, S> {
                 self.clear();
                 true
             }
-            _ => match timed(word, n) {
-                Some(future) => self.push(future).is_ok(),
-                None => false,
-            },
+            _ => timed(word, n).is_some_and(|future| self.push(future).is_ok()),
         }
     }
 

@@ -1,7 +1,7 @@
-//! Scripts on a set, a queue or a merge in one task.
+//! Scripts on what is polled in one task: what a test does and what comes of it, a word for each step, with a number if
+//! it needs one.
 use crate::counted_source::SourceLog;
 use crate::held::Held;
-use crate::script::{Scene, play};
 use futures::task::Poll;
 use futures::test::MockTask;
 use futures_buffered_core::ready_core::NewFault;
@@ -10,7 +10,7 @@ use std::random::RandomSource;
 use std::sync::atomic::Ordering::SeqCst;
 use std::test::Fail;
 
-// A task, the log of the sources, and the set, queue or merge until the script drops it.
+// A task, the log of the sources, and what is polled until the script drops it.
 #[derive(Drop)]
 struct Stage<H: Held> {
     task: MockTask,
@@ -64,7 +64,8 @@ fn does_on<H: Held>(held: &mut H, task: &MockTask, log: &SourceLog, word: &str, 
     }
 }
 
-impl<H: Held> Scene for Stage<H> {
+impl<H: Held> Stage<H> {
+    // Makes a step, and returns whether the step does what the word says.
     fn does(&mut self, word: &str, n: u64) -> bool {
         match word {
             "woken" => self.task.is_woken(),
@@ -82,18 +83,28 @@ impl<H: Held> Scene for Stage<H> {
             },
         }
     }
+
+    // Makes each step of the script, as `ready 5, gives 5, none`. Fails at the first that does not do what it says.
+    fn play(&mut self, script: &str) -> Result<(), Fail> {
+        for (place, step) in script.split(", ").enumerate() {
+            let (word, number) = step.split_once(' ').unwrap_or((step, "0"));
+            if !self.does(word, number.parse().unwrap_or(u64::MAX)) {
+                return Err(Fail::new(format_args!(
+                    "step {place} does not do what it says: {step}"
+                )));
+            }
+        }
+        Ok(())
+    }
 }
 
 /// Plays a script in a new task. `sources` and `items` say how many the set has dropped, and `registered` how often a
 /// source was registered with.
-pub fn plays<R, H: Held>(
-    rt: &R,
+pub fn plays<H: Held>(
+    rt: &(impl RandomSource + AllocGlobal),
     made: Result<(SourceLog, H), Fail>,
     script: &str,
-) -> Result<(), Fail>
-where
-    R: RandomSource + AllocGlobal,
-{
+) -> Result<(), Fail> {
     let (log, held) = made?;
     let task = MockTask::new(rt)?;
     let mut stage = Stage {
@@ -101,20 +112,18 @@ where
         log,
         held: Some(held),
     };
-    play(&mut stage, script)
+    stage.play(script)
 }
 
-/// Plays a script on a set that has no log.
-pub fn plays_alone<R, H: Held>(rt: &R, made: Result<H, NewFault>, script: &str) -> Result<(), Fail>
-where
-    R: RandomSource + AllocGlobal,
-{
-    plays(rt, with_log(rt, made?), script)
-}
-
-fn with_log<R: AllocGlobal, H: Held>(rt: &R, held: H) -> Result<(SourceLog, H), Fail> {
+/// Plays a script on what has no log.
+pub fn plays_alone<H: Held>(
+    rt: &(impl RandomSource + AllocGlobal),
+    made: Result<H, NewFault>,
+    script: &str,
+) -> Result<(), Fail> {
+    let held = made?;
     match SourceLog::new(rt.alloc()) {
-        Ok(log) => Ok((log, held)),
+        Ok(log) => plays(rt, Ok((log, held)), script),
         Err(_) => Err("no memory".into()),
     }
 }
