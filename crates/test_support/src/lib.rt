@@ -18,6 +18,7 @@ pub mod polling;
 pub mod receiver;
 pub mod repeats;
 pub mod run_on;
+pub mod same;
 pub mod script;
 pub mod stage;
 pub mod sums;
