@@ -1,37 +1,24 @@
-//! Tests of the ready list, the ready core, the sources and the slot map, by public calls alone.
+//! Tests of the ready list, the ready core, the sources and the slot map, by public calls alone. Lists of events on a
+//! ready core are lines of `calls`.
 //!
-//! - `script`: scripts, which say what a test does and what comes of it, a word for each step.
-//! - `table`: the list and the machine of its steps.
-//! - `slot_map`: slots that are filled and emptied. Lists of events on a ready core are lines of `calls`.
-//! - `tasks`, `ready_source`, `who_is_woken`: scripts on two tasks and sources; the two sources for one caller; which
-//!   task a wake finds.
+//! - `script`: scripts, which say what a test does and what comes of it, a word for each step; an assertion as a call.
+//! - `list`, `schedules`: the list, on one thread and on five, and long schedules of the machine of its steps.
+//! - `tasks`, `who_is_woken`: scripts on two tasks and sources; which task a wake finds; the two sources for one caller.
 //! - `ready_shared`: the source whose slots are woken from any thread, with outer wakers that are no task's.
-//! - `each_wake`: two threads whose wakes are each answered.
-//! - `sizes`: many slots, and many calls against a plain list, by the calls of `names`.
+//! - `sizes`: slot maps, many slots, and many calls against a plain list.
 //! - `texts`: the texts of faults.
-//! - `same`, `slots`: an assertion as a call, and calls on one slot.
 #![tactic(auto)]
 
 #[cfg(test)]
-mod each_wake;
-#[cfg(test)]
-mod names;
+mod list;
 #[cfg(test)]
 mod ready_shared;
 #[cfg(test)]
-mod ready_source;
-#[cfg(test)]
-mod same;
+mod schedules;
 #[cfg(test)]
 mod script;
 #[cfg(test)]
 mod sizes;
-#[cfg(test)]
-mod slot_map;
-#[cfg(test)]
-mod slots;
-#[cfg(test)]
-mod table;
 #[cfg(test)]
 mod tasks;
 #[cfg(test)]

@@ -1,15 +1,86 @@
 //! Scripts on two tasks, 1 and 2, and on sources.
-use crate::names::Kind;
-use crate::script::{Scene, play, says_mark, says_take};
-use crate::slots::mark;
+use crate::script::{Scene, says_mark, says_take};
+use futures::task::{Poll, Source, Waker};
 use futures::test::MockTask;
 use futures_buffered_core::ready_core::NewFault;
-use std::alloc::{AllocGlobal, Global};
-use std::process::Abort;
-use std::random::RandomSource;
+use futures_buffered_core::ready_shared::{OuterWaker, SharedReady, SharedWaker};
+use futures_buffered_core::ready_source::{
+    CoreSource, NewSource, ReadySource, ScriptSource, SlotWaker,
+};
+use std::alloc::Global;
+use std::fmt::Debug;
+use std::io;
 use std::test::Fail;
 
-/// Two tasks, which of them are woken as far as the script says, in two bits, and the sources, with the number of the
+/// Returns a waker of this slot.
+pub fn waker_of<O: OuterWaker>(source: &SharedReady<O>, slot: usize) -> Option<SharedWaker<O>> {
+    if slot < source.capacity() {
+        source.try_waker(slot).ok()
+    } else {
+        None
+    }
+}
+
+/// Wakes the slot by a waker of it.
+pub fn wake<O: OuterWaker>(source: &SharedReady<O>, slot: usize) {
+    if let Some(waker) = waker_of(source, slot) {
+        waker.wake();
+    }
+}
+
+/// A source, with what differs between sources.
+pub trait Kind: ReadySource {
+    fn wake_slot(&mut self, _slot: usize) {}
+
+    fn hand_in(&mut self, _waker: Waker) {}
+
+    fn sibling(&mut self, _alloc: Global, _slots: usize) -> Result<Self, NewFault> {
+        Err(NewFault::Memory)
+    }
+
+    fn leave(self)
+    where
+        Self: Sized,
+    {}
+}
+
+impl Kind for ScriptSource {}
+
+impl Kind for CoreSource {
+    fn wake_slot(&mut self, slot: usize) {
+        if slot < self.capacity() {
+            self.waker(slot).wake();
+        }
+    }
+
+    fn sibling(&mut self, alloc: Global, slots: usize) -> Result<CoreSource, NewFault> {
+        self.make_sibling(alloc, slots)
+    }
+
+    fn leave(self) {
+        self.leave_siblings();
+    }
+}
+
+impl Kind for SharedReady {
+    fn wake_slot(&mut self, slot: usize) {
+        wake(self, slot);
+    }
+
+    fn hand_in(&mut self, waker: Waker) {
+        self.set_outer(waker);
+    }
+
+    fn sibling(&mut self, alloc: Global, slots: usize) -> Result<SharedReady, NewFault> {
+        self.make_sibling(alloc, slots)
+    }
+
+    fn leave(self) {
+        self.leave_siblings();
+    }
+}
+
+/// Two tasks; which of them are woken as far as the script says, in two bits; and the sources, with the number of the
 /// one that the next step is at.
 #[derive(Drop)]
 pub struct Tasks<S: Drop> {
@@ -17,8 +88,19 @@ pub struct Tasks<S: Drop> {
     one: MockTask,
     two: MockTask,
     woken: usize,
-    pub sources: Vec<S>,
+    sources: Vec<S>,
     at: usize,
+}
+
+// Makes a task that is not woken.
+fn resting_task(rt: &HostRuntime) -> io::Result<MockTask> {
+    let task = MockTask::new(rt)?;
+    task.enter(|_cx| ());
+    Ok(task)
+}
+
+fn choose<'a>(one: &'a MockTask, two: &'a MockTask, n: usize) -> &'a MockTask {
+    if n == 1 { one } else { two }
 }
 
 // Registers the task in a poll.
@@ -26,11 +108,21 @@ fn register<S: Kind>(task: &MockTask, source: &mut S) {
     task.enter(|cx| source.register(cx));
 }
 
+// Hands in a waker of this task.
+fn hand_in<S: Kind>(task: &MockTask, source: &mut S) {
+    let place = Source::new();
+    let mut kept = None;
+    let _: Poll<()> = task.enter(|cx| cx.register(&place, &mut kept));
+    if let Some(waker) = kept {
+        source.hand_in(waker);
+    }
+}
+
 impl<S: Kind> Tasks<S> {
-    /// Two new tasks, which are woken, and this source, number 0.
-    pub fn new<R>(rt: &R, made: Result<S, Fail>) -> Result<Tasks<S>, Fail>
+    /// Two tasks that rest, and this source, number 0.
+    pub fn new<E>(rt: &HostRuntime, made: Result<S, E>) -> Result<Tasks<S>, Fail>
     where
-        R: RandomSource + AllocGlobal,
+        E: Debug + Drop,
     {
         let mut sources = Vec::new(rt.alloc());
         if sources.push(made?).is_err() {
@@ -39,54 +131,40 @@ impl<S: Kind> Tasks<S> {
         Ok(Tasks {
             sources,
             alloc: rt.alloc(),
-            one: MockTask::new(rt)?,
-            two: MockTask::new(rt)?,
-            woken: 3,
+            one: resting_task(rt)?,
+            two: resting_task(rt)?,
+            woken: 0,
             at: 0,
         })
-    }
-
-    pub fn task(&self, n: usize) -> &MockTask {
-        if n == 1 { &self.one } else { &self.two }
     }
 
     fn are_woken(&self) -> usize {
         usize::from(self.one.is_woken()) | usize::from(self.two.is_woken()).wrapping_mul(2)
     }
 
-    /// Adds a sibling of the last source: why not, if it is refused.
-    pub fn add_sibling(&mut self, slots: usize) -> Option<NewFault> {
-        match self.sources.last_mut()?.sibling(self.alloc, slots) {
-            Ok(sibling) => match self.sources.push(sibling) {
-                Ok(()) => None,
-                Err(_) => Some(NewFault::Memory),
-            },
-            Err(fault) => Some(fault),
-        }
-    }
-
-    fn poll(&mut self, n: usize) -> bool {
-        match self.sources.get_mut(self.at) {
-            Some(source) if n == 1 => register(&self.one, source),
-            Some(source) => register(&self.two, source),
-            None => return false,
-        }
-        self.woken &= !n;
-        true
-    }
-
-    // The source that the next step is at leaves its siblings.
-    fn leave(&mut self) -> bool {
-        if self.at >= self.sources.len() {
+    // Adds a sibling of the last source, if the word does not say that it is refused.
+    fn adds_sibling(&mut self, word: &str, slots: usize) -> bool {
+        let Some(last) = self.sources.last_mut() else {
             return false;
+        };
+        match last.sibling(self.alloc, slots) {
+            Ok(sibling) => word == "sibling" && self.sources.push(sibling).is_ok(),
+            Err(NewFault::TooLarge) => word == "large_sibling",
+            Err(NewFault::Memory) => word == "lacking_sibling",
         }
-        self.sources.remove(self.at).leave();
-        true
     }
 
-    // A poll that does nothing.
-    fn rest(&mut self, n: usize) -> bool {
-        self.task(n).enter(|_cx| ());
+    // Makes a step in a poll of this task.
+    fn enters(&mut self, word: &str, n: usize) -> bool {
+        let task = choose(&self.one, &self.two, n);
+        let Some(source) = self.sources.get_mut(self.at) else {
+            return false;
+        };
+        match word {
+            "poll" => register(task, source),
+            "hand_in" => hand_in(task, source),
+            _ => task.enter(|_cx| ()),
+        }
         self.woken &= !n;
         true
     }
@@ -96,7 +174,7 @@ impl<S: Kind> Tasks<S> {
             return false;
         };
         match word {
-            "mark" | "marked" | "none" => says_mark(word, mark(source, n)),
+            "mark" | "marked" => n < source.capacity() && says_mark(word, source.mark(n)),
             "slot" | "empty" | "pause" => says_take(word, n, source.take()),
             "slots" => source.capacity() == n,
             "wake" => {
@@ -110,23 +188,26 @@ impl<S: Kind> Tasks<S> {
 
 /// `woken` says which task the step before woke; a step after which it does not stand wakes none.
 impl<S: Kind> Scene for Tasks<S> {
-    fn does(&mut self, word: &str, n: usize) -> bool {
+    fn is_quiet(&mut self, word: &str, n: usize) -> bool {
         if word == "woken" {
             self.woken |= n;
         }
-        if self.are_woken() != self.woken {
-            return false;
-        }
+        self.are_woken() == self.woken
+    }
+
+    fn does(&mut self, word: &str, n: usize) -> bool {
         match word {
-            "woken" | "end" => true,
+            "woken" => true,
             "at" => {
                 self.at = n;
                 true
             }
-            "poll" => self.poll(n),
-            "rest" => self.rest(n),
-            "sibling" => self.add_sibling(n).is_none(),
-            "leave" => self.leave(),
+            "poll" | "hand_in" | "rest" => self.enters(word, n),
+            "sibling" | "large_sibling" | "lacking_sibling" => self.adds_sibling(word, n),
+            "leave" if self.at < self.sources.len() => {
+                self.sources.remove(self.at).leave();
+                true
+            }
             "drop" => {
                 self.sources.clear();
                 true
@@ -134,15 +215,4 @@ impl<S: Kind> Scene for Tasks<S> {
             _ => self.does_at(word, n),
         }
     }
-}
-
-/// Plays a script on two tasks that rest, and on this source.
-pub fn plays<R, S: Kind>(rt: &R, made: Result<S, Fail>, script: &str) -> Result<(), Fail>
-where
-    R: Abort + AllocGlobal + RandomSource,
-{
-    let mut tasks = Tasks::new(rt, made)?;
-    play(rt, &mut tasks, "rest 1, rest 2");
-    play(rt, &mut tasks, script);
-    Ok(())
 }

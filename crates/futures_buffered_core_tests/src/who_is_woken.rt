@@ -1,20 +1,22 @@
-// Which task a wake finds, and where its waker lies, on one thread. A sibling is the next source.
-use crate::same::assert_same;
-use crate::script::play;
-use crate::tasks::{Tasks, plays};
-use futures::task::{Poll, Source, Waker};
-use futures::test::MockTask;
-use futures_buffered_core::ready_core::{MAX_CAPACITY, NewFault};
+// Which task a wake finds, and where its waker is kept, on one thread; a sibling is the next source. Then what the two
+// sources for one caller keep.
+use crate::script::{play, play_on, run_on, same};
+use crate::tasks::{Kind, Tasks};
+use futures_buffered_core::ready_core::{RunFault, Taken};
 use futures_buffered_core::ready_shared::SharedReady;
-use std::alloc::{AllocGlobal, Global};
-use std::process::Abort;
-use std::random::RandomSource;
+use futures_buffered_core::ready_source::{CoreSource, NewSource, ScriptSource};
+use std::fmt::Debug;
 use std::test::Fail;
 
-type Scene = Tasks<SharedReady>;
+// Makes a source of so many slots, and its tasks.
+fn shared(rt: &HostRuntime, slots: usize) -> Result<Tasks<SharedReady>, Fail> {
+    Tasks::new(rt, SharedReady::new(rt.alloc(), slots))
+}
 
-fn source_of(alloc: Global, slots: usize) -> Result<SharedReady, Fail> {
-    Ok(SharedReady::new(alloc, slots)?)
+// Plays a script on a source of so many slots. The number `a` is its last slot, and `b` the slot in its middle.
+fn plays(rt: &HostRuntime, slots: usize, script: &str) -> Result<(), Fail> {
+    let numbers = [slots.saturating_sub(1), slots / 2];
+    play_on(shared(rt, slots), numbers, script)
 }
 
 // A poll that ends with a name leaves the task's waker with the poller, where no wake finds it: that task polls again
@@ -23,7 +25,7 @@ fn source_of(alloc: Global, slots: usize) -> Result<SharedReady, Fail> {
 fn a_wake_after_a_name_wakes_nobody(rt: HostRuntime) -> Result<(), Fail> {
     let script = "mark 0, poll 1, slot 0, wake 1, poll 1, slot 1, wake 0, poll 1, slot 0, poll 1, \
         empty, wake 1, woken 1, poll 1, slot 1, wake 0, poll 1, slot 0, poll 1, empty, wake 1, woken 1";
-    plays(&rt, source_of(rt.alloc(), 2), script)
+    plays(&rt, 2, script)
 }
 
 // A second task that is given a name takes the place of the first, which is woken by that. Wakes find the second once
@@ -32,20 +34,20 @@ fn a_wake_after_a_name_wakes_nobody(rt: HostRuntime) -> Result<(), Fail> {
 fn a_second_task_that_is_given_a_name_takes_the_place(rt: HostRuntime) -> Result<(), Fail> {
     let script = "poll 1, empty, mark 0, poll 2, woken 1, slot 0, rest 1, wake 1, poll 2, slot 1, \
         poll 2, empty, wake 0, woken 2";
-    plays(&rt, source_of(rt.alloc(), 2), script)
+    plays(&rt, 2, script)
 }
 
 #[test]
 fn a_second_task_that_finds_nothing_takes_the_place(rt: HostRuntime) -> Result<(), Fail> {
     let script = "poll 1, empty, poll 2, woken 1, empty, rest 1, wake 0, woken 2";
-    plays(&rt, source_of(rt.alloc(), 2), script)
+    plays(&rt, 2, script)
 }
 
 // A second task finds the first's waker with the poller, lets it go there, and is found in its stead.
 #[test]
 fn a_second_task_takes_the_place_with_the_poller(rt: HostRuntime) -> Result<(), Fail> {
     let script = "mark 0, poll 1, slot 0, poll 2, woken 1, empty, rest 1, wake 0, woken 2";
-    plays(&rt, source_of(rt.alloc(), 2), script)
+    plays(&rt, 2, script)
 }
 
 // A source is made beside one at which a task waits, and a wake of the new one finds the task. The making wakes nobody.
@@ -53,7 +55,7 @@ fn a_second_task_takes_the_place_with_the_poller(rt: HostRuntime) -> Result<(), 
 fn a_source_made_beside_finds_the_task_that_waits(rt: HostRuntime) -> Result<(), Fail> {
     let script = "mark 0, poll 1, slot 0, empty, sibling 2, at 1, wake 1, woken 1, slot 1, empty, \
         at 0, empty";
-    plays(&rt, source_of(rt.alloc(), 1), script)
+    plays(&rt, 1, script)
 }
 
 // The task's waker is with the poller of the first source as the second is made. It stays there, so a wake of the second
@@ -62,7 +64,7 @@ fn a_source_made_beside_finds_the_task_that_waits(rt: HostRuntime) -> Result<(),
 fn a_source_made_beside_leaves_the_waker_with_the_poller(rt: HostRuntime) -> Result<(), Fail> {
     let script = "mark 0, poll 1, slot 0, sibling 2, at 1, wake 1, at 0, poll 1, empty, at 1, \
         slot 1, empty, wake 0, woken 1";
-    plays(&rt, source_of(rt.alloc(), 1), script)
+    plays(&rt, 1, script)
 }
 
 // The task's waker is with the poller of a source that leaves its siblings. The drop wakes nobody, and a wake of a
@@ -70,32 +72,26 @@ fn a_source_made_beside_leaves_the_waker_with_the_poller(rt: HostRuntime) -> Res
 #[test]
 fn a_source_that_leaves_its_siblings_wakes_nobody(rt: HostRuntime) -> Result<(), Fail> {
     let script = "mark 0, poll 1, slot 0, sibling 1, leave, wake 0, woken 1, slot 0, empty";
-    plays(&rt, source_of(rt.alloc(), 1), script)
+    plays(&rt, 1, script)
 }
 
-// Registers at one source and asks it, and then the other, which have nothing. A wake of either then finds the task,
-// and the next one does not.
-fn play_pair<R>(rt: &R, tasks: &mut Scene, (a, b): (usize, usize)) -> Result<(), Fail>
-where
-    R: Abort + AllocGlobal,
-{
-    let script = format!(in rt.alloc();
-        "at {a}, poll 1, empty, at {b}, empty, wake 0, woken 1, rest 1, at {a}, wake 0, \
-        at {b}, slot 0, at {a}, slot 0, poll 1, empty, at {b}, empty, at {a}, wake 0, woken 1, slot 0, empty"
-    )?;
-    play(rt, tasks, script.as_str());
+// Registers at one source and dequeues from it, and then from the other, which have nothing. A wake of either then finds
+// the task, and the next one does not.
+fn play_pairs(tasks: &mut Tasks<SharedReady>) -> Result<(), Fail> {
+    play(tasks, [0, 0], "sibling 1, sibling 1")?;
+    for pair in [[0, 1], [1, 0], [0, 2], [2, 1]] {
+        let script =
+            "at a, poll 1, empty, at b, empty, wake 0, woken 1, rest 1, at a, wake 0, at b, \
+            slot 0, at a, slot 0, poll 1, empty, at b, empty, at a, wake 0, woken 1, slot 0, empty";
+        play(tasks, pair, script)?;
+    }
     Ok(())
 }
 
 // One registration covers all sources that stand beside one another.
 #[test]
 fn sources_beside_one_another_wake_one_task(rt: HostRuntime) -> Result<(), Fail> {
-    let mut tasks = Tasks::new(&rt, source_of(rt.alloc(), 1))?;
-    play(&rt, &mut tasks, "rest 1, rest 2, sibling 1, sibling 1");
-    for pair in [(0, 1), (1, 0), (0, 2), (2, 1)] {
-        play_pair(&rt, &mut tasks, pair)?;
-    }
-    Ok(())
+    run_on(shared(&rt, 1), |tasks| play_pairs(tasks))
 }
 
 // Of sources beside one another too, wakes find the task only once its poll found nothing.
@@ -103,7 +99,7 @@ fn sources_beside_one_another_wake_one_task(rt: HostRuntime) -> Result<(), Fail>
 fn a_wake_beside_finds_the_task_once_its_poll_found_nothing(rt: HostRuntime) -> Result<(), Fail> {
     let script = "sibling 1, mark 0, poll 1, slot 0, at 1, wake 0, at 0, poll 1, empty, at 1, \
         slot 0, wake 0, woken 1, poll 1, slot 0, at 0, wake 0";
-    plays(&rt, source_of(rt.alloc(), 1), script)
+    plays(&rt, 1, script)
 }
 
 // The waker of an earlier poll lies with one source as the other's is put in. Where it is put in too, the one that it
@@ -112,22 +108,7 @@ fn a_wake_beside_finds_the_task_once_its_poll_found_nothing(rt: HostRuntime) -> 
 fn an_earlier_waker_that_comes_later_wakes_the_task(rt: HostRuntime) -> Result<(), Fail> {
     let script = "sibling 1, at 1, mark 0, poll 1, slot 0, at 0, poll 1, empty, at 1, empty, \
         woken 1, at 0, poll 1, empty, at 1, empty";
-    plays(&rt, source_of(rt.alloc(), 1), script)
-}
-
-// A wake of this slot wakes the task that waits, and marks the slot.
-fn try_slot<R: Abort + AllocGlobal>(rt: &R, tasks: &mut Scene, slot: usize) -> Result<(), Fail> {
-    let script = format!(in rt.alloc(); "poll 1, empty, wake {slot}, woken 1, slot {slot}")?;
-    play(rt, tasks, script.as_str());
-    Ok(())
-}
-
-// The last slot of so many, the one in the middle and the first.
-fn try_slots<R: Abort + AllocGlobal + RandomSource>(rt: &R, slots: usize) -> Result<(), Fail> {
-    let mut tasks = Tasks::new(rt, source_of(rt.alloc(), slots))?;
-    try_slot(rt, &mut tasks, slots.saturating_sub(1))?;
-    try_slot(rt, &mut tasks, slots / 2)?;
-    try_slot(rt, &mut tasks, 0)
+    plays(&rt, 1, script)
 }
 
 // Numbers of slots about those at which a word, a byte or two bytes are full.
@@ -135,23 +116,24 @@ const FULL: [usize; 16] = [
     1, 2, 31, 32, 33, 63, 64, 65, 127, 128, 129, 256, 257, 65_536, 131_072, 200_000,
 ];
 
+// A wake of the last slot, of the one in the middle or of the first wakes the task that waits, and marks the slot.
 #[test]
 fn a_wake_of_the_last_slot_wakes_the_task(rt: HostRuntime) -> Result<(), Fail> {
+    let script = "poll 1, empty, wake a, woken 1, slot a, poll 1, empty, wake b, woken 1, slot b, \
+        poll 1, empty, wake 0, woken 1, slot 0";
     for slots in FULL {
-        try_slots(&rt, slots)?;
+        plays(&rt, slots, script)?;
     }
     Ok(())
 }
 
 // Each slot of so many, of a source and of one made beside it.
-fn try_each_slot<R: Abort + AllocGlobal + RandomSource>(rt: &R, slots: usize) -> Result<(), Fail> {
-    let mut tasks = Tasks::new(rt, source_of(rt.alloc(), slots))?;
-    assert_same(rt, tasks.add_sibling(slots), None);
+fn play_slots(tasks: &mut Tasks<SharedReady>, slots: usize) -> Result<(), Fail> {
+    play(tasks, [slots, 0], "sibling a")?;
     for slot in 0..slots {
-        play(rt, &mut tasks, "at 0");
-        try_slot(rt, &mut tasks, slot)?;
-        play(rt, &mut tasks, "at 1");
-        try_slot(rt, &mut tasks, slot)?;
+        let script = "at 0, poll 1, empty, wake a, woken 1, slot a, at 1, poll 1, empty, wake a, \
+            woken 1, slot a";
+        play(tasks, [slot, 0], script)?;
     }
     Ok(())
 }
@@ -159,47 +141,79 @@ fn try_each_slot<R: Abort + AllocGlobal + RandomSource>(rt: &R, slots: usize) ->
 #[test]
 fn a_wake_of_each_slot_of_nine_sizes_wakes_the_task(rt: HostRuntime) -> Result<(), Fail> {
     for slots in [1, 8, 9, 63, 64, 65, 100, 128, 256] {
-        try_each_slot(&rt, slots)?;
+        run_on(shared(&rt, slots), |tasks| play_slots(tasks, slots))?;
     }
     Ok(())
 }
 
-// The task's waker is with the poller when a sibling is refused, as too large and for want of memory.
+// The task's waker is with the poller when a sibling is refused, as too large and because an allocation fails.
 #[test]
 fn a_refused_sibling_does_not_wake_the_task(rt: HostRuntime) -> Result<(), Fail> {
-    let mut tasks = Tasks::new(&rt, source_of(rt.alloc(), 1))?;
-    play(&rt, &mut tasks, "mark 0, poll 1, slot 0");
-    assert_same(
-        &rt,
-        tasks.add_sibling(MAX_CAPACITY + 1),
-        Some(NewFault::TooLarge),
-    );
-    assert_same(&rt, tasks.add_sibling(MAX_CAPACITY), Some(NewFault::Memory));
-    play(&rt, &mut tasks, "end");
-    Ok(())
+    let script = "mark 0, poll 1, slot 0, large_sibling 4611686018427387904, \
+        lacking_sibling 4611686018427387903";
+    plays(&rt, 1, script)
 }
 
-// A waker of this task.
-fn waker_of(task: &MockTask) -> Option<Waker> {
-    let place = Source::new();
-    let mut kept = None;
-    let _: Poll<()> = task.enter(|cx| cx.register(&place, &mut kept));
-    kept
-}
-
-fn hand_in(tasks: &mut Scene) {
-    if let (Some(waker), Some(source)) = (waker_of(tasks.task(2)), tasks.sources.get_mut(0)) {
-        source.set_outer(waker);
-    }
-}
-
-// The waker of a task that is registered lies where wakes find it before its poll finds nothing, in place of one that
-// was handed in.
+// The waker of a task that is registered is where wakes find it before its poll finds nothing, in place of one that was
+// handed in.
 #[test]
 fn a_task_that_waits_takes_the_place_of_what_was_handed_in(rt: HostRuntime) -> Result<(), Fail> {
-    let mut tasks = Tasks::new(&rt, source_of(rt.alloc(), 1))?;
-    play(&rt, &mut tasks, "rest 2, poll 1");
-    hand_in(&mut tasks);
-    play(&rt, &mut tasks, "empty, woken 2, rest 2, wake 0, woken 1");
-    Ok(())
+    let script = "poll 1, hand_in 2, empty, woken 2, rest 2, wake 0, woken 1";
+    plays(&rt, 1, script)
+}
+
+// Plays a script on this source.
+fn plays_source<S: Kind, E>(rt: &HostRuntime, made: Result<S, E>, script: &str) -> Result<(), Fail>
+where
+    E: Debug + Drop,
+{
+    play_on(Tasks::new(rt, made), [0, 0], script)
+}
+
+#[test]
+fn gives_the_answers_and_then_empty(rt: HostRuntime) -> Result<(), Fail> {
+    let answers = vec![in rt.alloc(); Taken::Slot(1), Taken::Pause]?;
+    let script = "slots 2, mark 0, mark 0, slot 1, pause, empty, empty";
+    plays_source(&rt, ScriptSource::new(rt.alloc(), 2, answers), script)
+}
+
+#[test]
+fn refuses_an_answer_that_names_no_slot(rt: HostRuntime) -> Result<(), Fail> {
+    let answers = vec![in rt.alloc(); Taken::Slot(1), Taken::Slot(2), Taken::Slot(3)]?;
+    let refused = ScriptSource::new(rt.alloc(), 2, answers);
+    same(refused.err(), Some(RunFault::Event(1)))
+}
+
+#[test]
+fn makes_a_core(rt: HostRuntime) -> Result<(), Fail> {
+    let source = CoreSource::make(&(), rt.alloc(), 2);
+    plays_source(&rt, source, "mark 1, wake 1, slot 1, empty")
+}
+
+// A waker of a task wakes it when it is dropped. So one that was kept in no source, or by a plain yield, would show at
+// once, and one that is kept in place of the waker of another task drops that. No dequeue drops it.
+#[test]
+fn a_core_source_keeps_the_tasks_waker(rt: HostRuntime) -> Result<(), Fail> {
+    let script = "mark 0, poll 1, poll 2, woken 1, slot 0, empty, drop, woken 2";
+    plays_source(&rt, CoreSource::make(&(), rt.alloc(), 1), script)
+}
+
+#[test]
+fn a_script_source_keeps_the_tasks_waker(rt: HostRuntime) -> Result<(), Fail> {
+    let answers = vec![in rt.alloc(); Taken::Slot(0), Taken::Pause]?;
+    let script = "poll 1, poll 2, woken 1, slot 0, pause, empty, drop, woken 2";
+    plays_source(&rt, ScriptSource::new(rt.alloc(), 1, answers), script)
+}
+
+// A registration of the task that is kept, a mark and the making of a sibling wake nobody.
+#[test]
+fn a_core_source_lets_its_task_wait(rt: HostRuntime) -> Result<(), Fail> {
+    let script = "poll 1, poll 1, mark 1, sibling 1";
+    plays_source(&rt, CoreSource::make(&(), rt.alloc(), 2), script)
+}
+
+#[test]
+fn a_script_source_lets_its_task_wait(rt: HostRuntime) -> Result<(), Fail> {
+    let source = ScriptSource::new(rt.alloc(), 2, Vec::new(rt.alloc()));
+    plays_source(&rt, source, "poll 1, poll 1, mark 1")
 }

@@ -1,163 +1,102 @@
 // Joins over sources of their own: whom the call that ends a join wakes, and when it drops its source.
-use crate::same::assert_same;
 use futures::Future;
-use futures::task::Poll;
 use futures::test::MockTask;
+use futures_buffered_core::ready_core::NewFault;
 use futures_buffered_core::ready_source::CoreSource;
 use futures_buffered_sets::{JoinAll, TryJoinAll};
-use std::alloc::{AllocError, AllocGlobal, Global};
-use std::process::Abort;
-use std::random::RandomSource;
+use std::alloc::AllocError;
+use std::fmt::Debug;
 use std::sync::atomic::Ordering::SeqCst;
 use std::test::Fail;
 use test_support::attempt::{Attempt, at_once};
 use test_support::begin::task_and_log;
 use test_support::counted_source::{CountedSource, SourceLog};
 use test_support::polling::poll_join;
-use test_support::timed::{Timed, late, ready, ready_up_to};
+use test_support::same::same;
+use test_support::timed::{Timed, late, ready};
 
-#[derive(Clone, Copy, Debug, PartialEq, Eq)]
-enum Given {
-    Pending,
-    None,
-    Three(u64, u64, u64),
-    Error(u64),
-    Many(usize),
-}
+type Join = JoinAll<Timed, CountedSource>;
 
-// What a poll gave, whether it woke its task, and how often a source was dropped by then.
-type Seen = (Given, bool, u64);
+type TryJoin = TryJoinAll<Attempt, CountedSource>;
 
-// What ends a join.
-trait Ended: Drop {
-    fn given(&self) -> Given;
-}
-
-impl Ended for Vec<u64> {
-    fn given(&self) -> Given {
-        match self.as_slice() {
-            [] => Given::None,
-            [first, second, third] => Given::Three(*first, *second, *third),
-            outputs => Given::Many(outputs.len()),
-        }
-    }
-}
-
-impl Ended for Result<Vec<u64>, u64> {
-    fn given(&self) -> Given {
-        match self {
-            Ok(outputs) => outputs.given(),
-            Err(error) => Given::Error(*error),
-        }
-    }
-}
-
-fn poll_given<J: Future<Output: Ended>>(task: &MockTask, join: &mut J) -> Given
+// Writes what a poll returns, whether it wakes its task, and how often a source was dropped by then.
+fn write_poll<J>(
+    text: &mut String,
+    task: &MockTask,
+    log: &SourceLog,
+    join: &mut J,
+) -> Result<(), AllocError>
+where
+    J: Future<Output: Debug + Drop>,
     requires { (join : J) → J.can_poll join }
 {
-    match poll_join(task, join) {
-        Poll::Ready(ended) => ended.given(),
-        Poll::Pending => Given::Pending,
-    }
+    let polled = poll_join(task, join);
+    write!(
+        text,
+        "{polled:?} {} {}; ",
+        task.is_woken(),
+        log.drops.load(SeqCst)
+    )
 }
 
-fn polled<J: Future<Output: Ended>>(task: &MockTask, log: &SourceLog, join: &mut J) -> Seen
-    requires { (join : J) → J.can_poll join }
+// Two polls of the join are seen to do this.
+fn sees<J, M>(rt: &HostRuntime, make: M, wanted: &str) -> Result<(), Fail>
+where
+    J: Future<Output: Debug + Drop> + Drop,
+    M: FnOnce(&SourceLog) -> Result<J, NewFault> + Drop,
+    requires polls { (join : J) → J.can_poll join }
+    requires makes { M.IsAlwaysCallable make }
 {
-    let given = poll_given(task, join);
-    (given, task.is_woken(), log.drops.load(SeqCst))
+    let (task, log) = task_and_log(rt)?;
+    let mut join = make(&log)?;
+    let mut seen = String::new(rt.alloc());
+    write_poll(&mut seen, &task, &log, &mut join)?;
+    write_poll(&mut seen, &task, &log, &mut join)?;
+    same(seen.as_str(), wanted)
 }
 
+// Such a source keeps the task's waker, which wakes the task as it is dropped with the source.
 #[test]
 fn a_join_over_a_core_source(rt: HostRuntime) -> Result<(), Fail> {
-    let task = MockTask::new(&rt)?;
-    let futures = vec![in rt.alloc(); ready(1), ready(2), ready(3)]?;
-    let mut join: JoinAll<Timed, CoreSource> = JoinAll::over(&(), rt.alloc(), futures)?;
-    assert_same(&rt, poll_given(&task, &mut join), Given::Three(1, 2, 3));
-    assert_same(&rt, poll_given(&task, &mut join), Given::None);
-    Ok(())
-}
-
-// What two polls of a join see.
-fn twice<J: Future<Output: Ended>>(task: &MockTask, log: &SourceLog, join: &mut J) -> (Seen, Seen)
-    requires { (join : J) → J.can_poll join }
-{
-    let first = polled(task, log, join);
-    (first, polled(task, log, join))
-}
-
-fn row<T: Copy + Drop>(alloc: Global, items: [T; 3]) -> Result<Vec<T>, AllocError> {
-    Ok(Vec::from_array(alloc, items)?)
-}
-
-// Two polls of the join of these futures see this.
-fn joins<R>(
-    rt: &R,
-    futures: Result<Vec<Timed>, AllocError>,
-    wanted: (Seen, Seen),
-) -> Result<(), Fail>
-where
-    R: Abort + RandomSource + AllocGlobal,
-{
-    let futures = futures?;
-    let (task, log) = task_and_log(rt)?;
-    let mut join: JoinAll<Timed, CountedSource> = JoinAll::over(&log, rt.alloc(), futures)?;
-    assert_same(rt, twice(&task, &log, &mut join), wanted);
-    Ok(())
-}
-
-fn try_joins<R>(
-    rt: &R,
-    futures: Result<Vec<Attempt>, AllocError>,
-    wanted: (Seen, Seen),
-) -> Result<(), Fail>
-where
-    R: Abort + RandomSource + AllocGlobal,
-{
-    let futures = futures?;
-    let (task, log) = task_and_log(rt)?;
-    let mut join: TryJoinAll<Attempt, CountedSource> = TryJoinAll::over(&log, rt.alloc(), futures)?;
-    assert_same(rt, twice(&task, &log, &mut join), wanted);
-    Ok(())
-}
-
-// The first poll ends the join, which drops its source, and no poll wakes its task.
-fn ends(given: Given) -> (Seen, Seen) {
-    ((given, false, 1), (Given::None, false, 1))
+    let futures = [ready(1), ready(2), ready(3)];
+    let make = |_log: &SourceLog| JoinAll::<Timed, CoreSource>::over(&(), rt.alloc(), futures);
+    sees(&rt, make, "Ready([1, 2, 3]) true 0; Ready([]) false 0; ")
 }
 
 #[test]
 fn the_call_that_ends_a_join_drops_its_source_and_wakes_nobody(
     rt: HostRuntime,
 ) -> Result<(), Fail> {
-    let futures = row(rt.alloc(), [ready(1), ready(2), ready(3)]);
-    joins(&rt, futures, ends(Given::Three(1, 2, 3)))
+    let make = |log: &SourceLog| Join::over(log, rt.alloc(), [ready(1), ready(2), ready(3)]);
+    sees(&rt, make, "Ready([1, 2, 3]) false 1; Ready([]) false 1; ")
 }
 
 #[test]
 fn a_pending_join_keeps_its_source_and_wakes_nobody(rt: HostRuntime) -> Result<(), Fail> {
-    let futures = row(rt.alloc(), [ready(1), late(2), ready(3)]);
-    let pending = (Given::Pending, false, 0);
-    joins(&rt, futures, (pending, pending))
+    let make = |log: &SourceLog| Join::over(log, rt.alloc(), [ready(1), late(2), ready(3)]);
+    sees(&rt, make, "Pending false 0; Pending false 0; ")
 }
 
 #[test]
 fn the_call_that_ends_a_try_join_drops_its_source_and_wakes_nobody(
     rt: HostRuntime,
 ) -> Result<(), Fail> {
-    let futures = row(rt.alloc(), [at_once(Ok(1)), at_once(Ok(2)), at_once(Ok(3))]);
-    try_joins(&rt, futures, ends(Given::Three(1, 2, 3)))
+    let futures = [at_once(Ok(1)), at_once(Ok(2)), at_once(Ok(3))];
+    let make = |log: &SourceLog| TryJoin::over(log, rt.alloc(), futures);
+    sees(
+        &rt,
+        make,
+        "Ready(Ok([1, 2, 3])) false 1; Ready(Ok([])) false 1; ",
+    )
 }
 
 #[test]
 fn the_call_that_answers_an_error_drops_the_source_and_wakes_nobody(
     rt: HostRuntime,
 ) -> Result<(), Fail> {
-    let futures = row(
-        rt.alloc(),
-        [at_once(Ok(1)), at_once(Err(7)), at_once(Ok(3))],
-    );
-    try_joins(&rt, futures, ends(Given::Error(7)))
+    let futures = [at_once(Ok(1)), at_once(Err(7)), at_once(Ok(3))];
+    let make = |log: &SourceLog| TryJoin::over(log, rt.alloc(), futures);
+    sees(&rt, make, "Ready(Err(7)) false 1; Ready(Ok([])) false 1; ")
 }
 
 // How many futures a long join is made of.
@@ -165,34 +104,29 @@ const MANY: u64 = 2_000;
 
 #[test]
 fn the_end_of_a_long_join_drops_its_source(rt: HostRuntime) -> Result<(), Fail> {
-    joins(
-        &rt,
-        ready_up_to(rt.alloc(), MANY),
-        ends(Given::Many(MANY as usize)),
-    )
+    let outputs: Vec<u64> = (0..MANY).collect(rt.alloc())?;
+    let wanted = format!(in rt.alloc(); "Ready({outputs:?}) false 1; Ready([]) false 1; ")?;
+    let make = |log: &SourceLog| Join::over(log, rt.alloc(), (0..MANY).map(|n| ready(n)));
+    sees(&rt, make, wanted.as_str())
 }
 
-// As many, of which the one at this place fails.
-fn attempts(alloc: Global, fails: u64) -> Result<Vec<Attempt>, AllocError> {
-    let mut attempts = Vec::new(alloc);
-    for place in 0..MANY {
-        let given = if place == fails {
-            Err(place)
-        } else {
-            Ok(place)
-        };
-        attempts.push(at_once(given))?;
-    }
-    Ok(attempts)
+// The attempt of this number, which is that of the attempt that fails or not.
+fn attempt(n: u64, fails: u64) -> Attempt {
+    at_once(if n == fails { Err(n) } else { Ok(n) })
 }
 
 #[test]
 fn the_end_of_a_long_try_join_drops_its_source(rt: HostRuntime) -> Result<(), Fail> {
-    try_joins(
+    let outputs: Vec<u64> = (0..MANY).collect(rt.alloc())?;
+    let wanted = format!(in rt.alloc(); "Ready(Ok({outputs:?})) false 1; Ready(Ok([])) false 1; ")?;
+    let right = (0..MANY).map(|n| attempt(n, MANY));
+    let make = |log: &SourceLog| TryJoin::over(log, rt.alloc(), right);
+    sees(&rt, make, wanted.as_str())?;
+    let wrong = (0..MANY).map(|n| attempt(n, MANY - 1));
+    let make_wrong = |log: &SourceLog| TryJoin::over(log, rt.alloc(), wrong);
+    sees(
         &rt,
-        attempts(rt.alloc(), MANY),
-        ends(Given::Many(MANY as usize)),
-    )?;
-    let last_fails = attempts(rt.alloc(), MANY - 1);
-    try_joins(&rt, last_fails, ends(Given::Error(MANY - 1)))
+        make_wrong,
+        "Ready(Err(1999)) false 1; Ready(Ok([])) false 1; ",
+    )
 }

@@ -1,9 +1,10 @@
-// Sets that move to another thread, or are woken from one.
-use crate::same::assert_same;
+// Sets, joins and merges whose values another thread sends, and sets that move to another thread.
 use futures::executor::block_on;
 use futures::{StreamExt, future};
 use futures_buffered_core::ready_shared::SharedReady;
-use futures_buffered_sets::FuturesUnorderedBounded;
+use futures_buffered_sets::{
+    FuturesUnorderedBounded, MergeBounded, MergeUnbounded, join_all, try_join_all,
+};
 use std::alloc::AllocGlobal;
 use std::random::RandomSource;
 use std::sync::Wait;
@@ -13,6 +14,7 @@ use test_support::attempt::Attempt;
 use test_support::cells::{Cells, new_cells, send_each};
 use test_support::ends::{collected, counted, ended_beside};
 use test_support::receiver::Receiver;
+use test_support::same::same;
 use test_support::sums::count_and_sum;
 use test_support::timed::ready;
 
@@ -22,8 +24,7 @@ type Shared<F> = FuturesUnorderedBounded<F, SharedReady>;
 fn a_set_is_polled_on_another_thread(rt: HostRuntime) -> Result<(), Fail> {
     let set = Shared::from_iter(rt.alloc(), [ready(1), ready(2)])?;
     let (outputs, ()) = thread::join(&rt, || collected(&rt, set), || ());
-    assert_same(&rt, outputs??.as_slice(), [1, 2].as_slice());
-    Ok(())
+    same(outputs??.as_slice(), [1, 2].as_slice())
 }
 
 // Wakes itself once.
@@ -36,8 +37,7 @@ const YIELDS: Attempt = Attempt {
 fn a_set_that_yields_is_polled_on_another_thread(rt: HostRuntime) -> Result<(), Fail> {
     let set = Shared::from_iter(rt.alloc(), [YIELDS, YIELDS])?;
     let (outputs, ()) = thread::join(&rt, || counted(&rt, set), || ());
-    assert_same(&rt, outputs?, 2);
-    Ok(())
+    same(outputs?, 2)
 }
 
 // The first output, and the bits of the others.
@@ -60,8 +60,7 @@ fn next_and_fold_while_a_thread_wakes(rt: HostRuntime) -> Result<(), Fail> {
         || next_and_fold(&rt, set),
     );
     let (first, others) = outputs?;
-    assert_same(&rt, (others & first, others | first), (0, 15));
-    Ok(())
+    same((others & first, others | first), (0, 15))
 }
 
 #[test]
@@ -69,6 +68,40 @@ fn collect_while_a_thread_wakes(rt: HostRuntime) -> Result<(), Fail> {
     let Cells { senders, receivers } = new_cells(&rt, rt.alloc(), 4)?;
     let outputs = Shared::from_iter(rt.alloc(), receivers)?.collect(rt.alloc());
     let outputs = ended_beside(&rt, outputs, move || send_each(&senders, [5, 6, 7, 8]))??;
-    assert_same(&rt, count_and_sum(outputs.as_slice()), (4, 26));
-    Ok(())
+    same(count_and_sum(outputs.as_slice()), (4, 26))
+}
+
+#[test]
+fn a_bounded_merge_while_a_thread_wakes(rt: HostRuntime) -> Result<(), Fail> {
+    let Cells { senders, receivers } = new_cells(&rt, rt.alloc(), 4)?;
+    let merge = MergeBounded::<_, SharedReady>::from_iter(rt.alloc(), receivers)?;
+    let items = merge.collect(rt.alloc());
+    let items = ended_beside(&rt, items, move || send_each(&senders, [1, 2, 4, 8]))??;
+    same(count_and_sum(items.as_slice()), (4, 15))
+}
+
+#[test]
+fn a_growing_merge_while_a_thread_wakes(rt: HostRuntime) -> Result<(), Fail> {
+    let Cells { senders, receivers } = new_cells(&rt, rt.alloc(), 4)?;
+    let merge = MergeUnbounded::<_, SharedReady>::from_iter(rt.alloc(), receivers)?;
+    let items = merge.collect(rt.alloc());
+    let items = ended_beside(&rt, items, move || send_each(&senders, [1, 2, 4, 8]))??;
+    same(count_and_sum(items.as_slice()), (4, 15))
+}
+
+#[test]
+fn a_join_while_a_thread_wakes(rt: HostRuntime) -> Result<(), Fail> {
+    let Cells { senders, receivers } = new_cells(&rt, rt.alloc(), 4)?;
+    let join = join_all(rt.alloc(), receivers)?;
+    let outputs = ended_beside(&rt, join, move || send_each(&senders, [5, 6, 7, 8]))?;
+    same(outputs.as_slice(), [5, 6, 7, 8].as_slice())
+}
+
+#[test]
+fn a_try_join_while_a_thread_wakes(rt: HostRuntime) -> Result<(), Fail> {
+    let Cells { senders, receivers } = new_cells(&rt, rt.alloc(), 4)?;
+    let join = try_join_all(rt.alloc(), receivers)?;
+    let values = [Ok::<u64, u64>(5), Ok(6), Ok(7), Ok(8)];
+    let outputs = ended_beside(&rt, join, move || send_each(&senders, values))??;
+    same(outputs.as_slice(), [5, 6, 7, 8].as_slice())
 }

@@ -3,13 +3,16 @@ use crate::counted_source::SourceLog;
 use crate::dropped_streams::DroppedStream;
 use crate::numbered::Numbered;
 use crate::polling::poll_next;
+use crate::repeats::{Repeats, same};
 use crate::timed::{Timed, late, ready};
 use futures::task::Poll;
 use futures::test::MockTask;
 use futures_buffered_core::ready_core::{NewFault, Woke};
 use futures_buffered_core::ready_source::{NewSource, ReadySource};
 use futures_buffered_ordered::{FuturesOrdered, FuturesOrderedBounded};
-use futures_buffered_unordered::{FuturesUnordered, FuturesUnorderedBounded, MergeUnbounded};
+use futures_buffered_unordered::{
+    FuturesUnordered, FuturesUnorderedBounded, MergeBounded, MergeUnbounded,
+};
 
 /// A set, a queue or a merge whose items are numbers.
 pub trait Held: Drop {
@@ -175,15 +178,36 @@ fn add_to_merge<S: NewSource>(
     Ok(())
 }
 
-/// `waits` adds a stream that stays pending, `ends` a stream without items, and `add` a stream of one item. `lacks`
-/// says that the allocation of `add` failed.
+/// `waits` adds a stream that stays pending, `ends` a stream without items, `add` a stream of one item, and `twice` one
+/// of two. `lacks` says that the allocation of `add` failed.
 impl<S: NewSource> Held for MergeUnbounded<DroppedStream, S> {
     fn does(&mut self, log: &SourceLog, word: &str, n: u64) -> bool {
         match word {
             "count" => self.len() as u64 == n,
             "waits" => add_to_merge(self, log, None).is_ok(),
             "ends" => add_to_merge(self, log, Some(0)).is_ok(),
+            "twice" => add_to_merge(self, log, Some(2)).is_ok(),
             "add" | "lacks" => says_added(word, add_to_merge(self, log, Some(1))),
+            _ => false,
+        }
+    }
+
+    fn polled(&mut self, task: &MockTask) -> Poll<Option<u64>> {
+        poll_next(task, self)
+    }
+}
+
+/// `push` adds by the call that returns nothing, if there is room. `back` says that the merge is full, and returns the
+/// stream.
+impl<S: ReadySource> Held for MergeBounded<Repeats, S> {
+    fn does(&mut self, _log: &SourceLog, word: &str, n: u64) -> bool {
+        match word {
+            "ready" => self.try_push(same(n, 1)).is_ok(),
+            "back" => self.is_full() && self.try_push(same(n, 1)) == Err(same(n, 1)),
+            "push" if !self.is_full() => {
+                self.push(same(n, 1));
+                true
+            }
             _ => false,
         }
     }

@@ -19,6 +19,7 @@ pub mod polling;
 pub mod receiver;
 pub mod repeats;
 pub mod run_on;
+pub mod same;
 pub mod stage;
 pub mod sums;
 pub mod timed;

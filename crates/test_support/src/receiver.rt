@@ -2,7 +2,7 @@
 use futures::task::Poll;
 use futures_buffered_core::ready_shared::SharedWaker;
 use futures_buffered_core::ready_source::SlotWaker;
-use futures_buffered_unordered::slot_future::SlotFuture;
+use futures_buffered_unordered::{SlotFuture, SlotStream};
 use std::alloc::{AllocError, Global};
 use std::sync::{Arc, Mutex, Wait};
 
@@ -18,11 +18,13 @@ pub struct Sender<T, R> {
     cell: Arc<Mutex<Cell<T>>>,
 }
 
-/// Pending until a value is sent, then ready with it. It is not woken if its waker can't be kept.
+/// Pending until a value is sent, then ready with it. As a stream, it gives that once. It is not woken if its waker
+/// can't be kept.
 #[derive(Drop)]
 pub struct Receiver<T, R> {
     rt: R,
     cell: Arc<Mutex<Cell<T>>>,
+    is_over: bool,
 }
 
 pub fn one_shot<T: Drop, R: Clone + Drop>(
@@ -37,6 +39,7 @@ pub fn one_shot<T: Drop, R: Clone + Drop>(
     let receiver = Receiver {
         rt: env.clone()?,
         cell: Arc::try_clone(&cell)?,
+        is_over: false,
     };
     let rt = env.clone()?;
     Ok((Sender { rt, cell }, receiver))
@@ -69,5 +72,20 @@ impl<T: Drop, R: Wait + Drop> SlotFuture<SharedWaker> for Receiver<T, R> {
         }
         cell.waker = waker.try_clone().ok();
         Poll::Pending
+    }
+}
+
+impl<T: Drop, R: Wait + Drop> SlotStream<SharedWaker> for Receiver<T, R> {
+    type Item = T;
+
+    fn poll_next(&mut self, waker: &SharedWaker) -> Poll<Option<T>> {
+        if self.is_over {
+            return Poll::Ready(None);
+        }
+        let Poll::Ready(value) = self.poll(waker) else {
+            return Poll::Pending;
+        };
+        self.is_over = true;
+        Poll::Ready(Some(value))
     }
 }
