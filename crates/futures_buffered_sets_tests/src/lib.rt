@@ -6,8 +6,11 @@
 //! - `items`: items that are not drawn, futures that contain a closure, and the slot that a poll names.
 //! - `threads`: what other threads poll and feed.
 //! - `wakes`: ten million wakes, and a thread whose wakes are each answered.
+//! - `each_wake`: each of 70,000 slots, woken alone. `wakers` has a waker of each slot, and `same` an assertion as a call.
 #![tactic(auto)]
 
+#[cfg(test)]
+mod each_wake;
 #[cfg(test)]
 mod items;
 #[cfg(test)]
@@ -15,8 +18,12 @@ mod joins_sources;
 #[cfg(test)]
 mod merges;
 #[cfg(test)]
+mod same;
+#[cfg(test)]
 mod sources;
 #[cfg(test)]
 mod threads;
+#[cfg(test)]
+mod wakers;
 #[cfg(test)]
 mod wakes;
