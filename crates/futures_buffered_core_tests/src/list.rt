@@ -245,33 +245,32 @@ fn sums(one: [u64; 8], two: [u64; 8]) -> [u64; 8] {
     all
 }
 
-// Wakes the slots 0 to 7 in turn, 1000 times, and returns how many wakes of each were Fresh.
-fn wakes_in_turn(list: &ReadyList, mut seat: WakeSeat) -> [u64; 8]
+// Wakes the slots 0 to 7 in turn, 1000 times, and returns the seat, and how many wakes of each were Fresh.
+fn wakes_in_turn(list: &ReadyList, seat: WakeSeat) -> (WakeSeat, [u64; 8])
     requires { (seat.list ≡ list.now.list) × (list.now.capacity ≡ 8) }
+    ensures { result.0.list ≡ seat.list }
 {
+    let mut seat = seat;
     let mut fresh = [0u64; 8];
     for wake in 0..8_000usize {
         if list.wake(&mut seat, wake % 8) == Woke::Fresh {
             fresh[wake % 8] = fresh[wake % 8].wrapping_add(1);
         }
     }
-    fresh
+    (seat, fresh)
 }
 
-fn two_wake(rt: &impl Threads, list: &ReadyList, seat: WakeSeat) -> [u64; 8]
-    requires { (seat.list ≡ list.now.list) × (list.now.capacity ≡ 8) }
+// Two wakers at once.
+fn two_wake(
+    rt: &impl Threads,
+    list: &ReadyList,
+    one: WakeSeat,
+    two: WakeSeat,
+) -> ((WakeSeat, [u64; 8]), (WakeSeat, [u64; 8]))
+    requires { (one.list ≡ list.now.list) × (two.list ≡ list.now.list) × (list.now.capacity ≡ 8) }
+    ensures { (result.0.0.list ≡ list.now.list) × (result.1.0.list ≡ list.now.list) }
 {
-    let (one, two) = seat.split(list);
-    let (one, two) = thread::join(rt, || wakes_in_turn(list, one), || wakes_in_turn(list, two));
-    sums(one, two)
-}
-
-fn four_wake<R: Threads + Sync>(rt: &R, list: &ReadyList, seat: WakeSeat) -> [u64; 8]
-    requires { (seat.list ≡ list.now.list) × (list.now.capacity ≡ 8) }
-{
-    let (one, two) = seat.split(list);
-    let (one, two) = thread::join(rt, || two_wake(rt, list, one), || two_wake(rt, list, two));
-    sums(one, two)
+    thread::join(rt, || wakes_in_turn(list, one), || wakes_in_turn(list, two))
 }
 
 // Dequeues often, and returns the seat, and how often each slot came.
@@ -289,6 +288,29 @@ fn takes_often(list: &ReadyList, mut poll: PollSeat) -> (PollSeat, [u64; 8])
     (poll, slots)
 }
 
+// Two wakers and the poller at once.
+fn two_wake_beside<R: Threads + Sync>(
+    rt: &R,
+    list: &ReadyList,
+    one: WakeSeat,
+    two: WakeSeat,
+    poll: PollSeat,
+) -> (
+    ((WakeSeat, [u64; 8]), (WakeSeat, [u64; 8])),
+    (PollSeat, [u64; 8]),
+)
+    requires { (one.list ≡ list.now.list) × (two.list ≡ list.now.list) × (poll.list ≡ list.now.list)
+        × (list.now.capacity ≡ 8) }
+    ensures { (result.0.0.0.list ≡ list.now.list) × (result.0.1.0.list ≡ list.now.list)
+        × (result.1.0.list ≡ list.now.list) }
+{
+    thread::join(
+        rt,
+        || two_wake(rt, list, one, two),
+        || takes_often(list, poll),
+    )
+}
+
 // Returns 1 for each slot that was left marked, and 0 for each other.
 fn marks_of(closed: &Closed) -> [u64; 8]
     requires { closed.now.capacity ≡ 8 }
@@ -304,14 +326,18 @@ fn marks_of(closed: &Closed) -> [u64; 8]
 #[test]
 fn four_wakers(rt: HostRuntime) -> Result<(), Fail> {
     let (list, poll, seat) = ReadyList::new(rt.alloc(), 8)?;
-    let (fresh, taken) = thread::join(
+    let (one, two) = seat.split(&list);
+    let (one, three) = one.split(&list);
+    let (two, four) = two.split(&list);
+    let (first, (second, taken)) = thread::join(
         &rt,
-        || four_wake(&rt, &list, seat),
-        || takes_often(&list, poll),
+        || two_wake(&rt, &list, one, two),
+        || two_wake_beside(&rt, &list, three, four, poll),
     );
+    let (((_, a), (_, b)), ((_, c), (_, d))) = (first, second);
     let (poll, slots) = taken;
     let closed = list.close(poll, Vec::new(rt.alloc()));
     let left = marks_of(&closed);
     closed.free();
-    same(fresh, sums(slots, left))
+    same(sums(sums(a, b), sums(c, d)), sums(slots, left))
 }
