@@ -7,10 +7,12 @@
 #![tactic(auto)]
 
 use calls_lines::kinds::AllTypes;
-use calls_world::each::spread;
+use calls_world::line::parse_lines;
 use calls_world::lines::run_lines;
+use calls_world::memory::twice;
 use calls_world::report::Report;
 use calls_world::session::{Session, new_session};
+use calls_world::words::spread;
 use std::alloc::{AllocError, AllocGlobal, Global};
 use std::env::{Args, Env};
 use std::fs::Files;
@@ -29,28 +31,14 @@ fn print_report<R: Print + Eprint>(rt: &R, report: &mut Report) -> io::Result<u8
     Ok(report.status())
 }
 
-fn lines_of(alloc: Global, text: &str) -> Result<Vec<&str>, AllocError> {
-    match text.lines().collect(alloc) {
-        Ok(lines) => Ok(lines),
-        Err(_) => text.lines().collect(alloc),
-    }
-}
-
-fn read<R: Files + AllocGlobal>(rt: &R, file: &str) -> io::Result<String> {
-    match fs::read_to_string(rt, file) {
-        Ok(text) => Ok(text),
-        Err(_) => fs::read_to_string(rt, file),
-    }
-}
-
 fn run_file<R>(rt: &R, session: &mut Session, file: &str) -> io::Result<u8>
 where
     R: Files + Print + Eprint + AllocGlobal,
 {
     session.report.begin_file(file);
-    let text = read(rt, file)?;
+    let text = twice(|| fs::read_to_string(rt, file))?;
     let text = spread(rt.alloc(), text.as_str())?;
-    let lines = lines_of(rt.alloc(), text.as_str())?;
+    let lines = parse_lines(rt.alloc(), text.as_str())?;
     run_lines::<AllTypes>(session, lines.as_slice());
     print_report(rt, &mut session.report)
 }
@@ -86,11 +74,7 @@ fn run<R>(rt: &R) -> io::Result<u8>
 where
     R: Env + Files + Print + Eprint + RandomSource + AllocGlobal,
 {
-    let words = match env::args(rt) {
-        Ok(words) => words,
-        Err(_) => env::args(rt)?,
-    };
-    run_files(rt, words)
+    run_files(rt, twice(|| env::args(rt))?)
 }
 
 fn main(rt: HostRuntime) -> ExitCode {

@@ -1,14 +1,15 @@
-//! The reply to a query.
+//! The calls that an object has by their own names.
 
-/// The reply to a query: each that the object has, with its method, and what `Debug` prints.
+/// The reply to the word: of each of these methods, what it returns, and of `debug` what `Debug` prints.
 macro_rules! ask {
-    ($object:expr, $query:expr, $text:expr $(, $name:ident $method:ident)*) => {
-        match $query {
-            $(calls_world::command::Query::$name => $object.$method().told(),)*
-            calls_world::command::Query::Debug => {
-                calls_world::answer::of_debug(write!($text, "{:?}", $object))
-            }
-            _ => calls_world::answer::Reply::Nothing,
+    ($object:expr, $word:expr, $text:expr $(, $reply:ident $method:ident)*) => {
+        $(if $word == stringify!($method) {
+            calls_world::reply::Reply::$reply($object.$method())
+        } else)* if $word == "debug" {
+            $text.append(format_args!("{:?}", $object));
+            calls_world::reply::Reply::Written
+        } else {
+            calls_world::reply::Reply::Nothing
         }
     };
 }

@@ -1,67 +1,60 @@
 //! Sets of the kit's futures.
 use crate::ask::ask;
 use crate::kinds::AllTypes;
-use calls_world::answer::{Answer, Item, Reply, Told, of_next, of_push};
-use calls_world::command::{End, Query};
 use calls_world::memory;
+use calls_world::reply::{Item, Reply, of_next, of_push};
 use calls_world::session::{Session, first_of};
-use calls_world::subject::{Call, Subject};
-use calls_world::values::{Made, NumberFuture, Output, new_values};
+use calls_world::subject::{NewResult, Subject};
+use calls_world::text::Text;
+use calls_world::values::{NumberFuture, Output, new_value, new_values};
 use calls_world::world::SharedWorld;
 use futures::Stream;
 use futures::task::{Context, Poll};
 use futures_buffered::in_flight::{
     Came, FuturesUnordered, FuturesUnorderedBounded, FuturesUnorderedBy, IterExt, Kept, Key,
 };
-use futures_buffered_core::ready_core::NewFault;
 use futures_buffered_in_flight::in_flight::{Bounded, Growing, Kind};
 use futures_buffered_sets::{FusedStream, SizeHint};
 
 type Set<T, K> = FuturesUnorderedBy<NumberFuture, T, K>;
 
+type Tagged<K> = Kept<Set<usize, K>>;
+
+type Untagged<K> = Kept<Set<(), K>>;
+
+type Pushed = Result<Key, (NumberFuture, usize)>;
+
 /// A set whose tags are the numbers of its futures, and the key of the last push of each number.
 #[derive(Drop)]
 pub struct KitSet<K> {
-    set: Kept<Set<usize, K>>,
+    set: Tagged<K>,
     keys: Vec<Option<Key>>,
 }
 
 /// What a bounded set and a set that grows do each in its own way.
 pub trait Pushing: Kind {
-    fn push(set: &mut Kept<Set<(), Self>>, value: NumberFuture) -> Result<Key, NumberFuture>;
+    fn push(set: &mut Untagged<Self>, value: NumberFuture) -> Result<Key, NumberFuture>;
 
     /// A push under the number of the future as its tag.
-    fn push_by_number(
-        set: &mut Kept<Set<usize, Self>>,
-        value: NumberFuture,
-        id: usize,
-    ) -> Result<Key, (NumberFuture, usize)>;
+    fn push_by_number(set: &mut Tagged<Self>, value: NumberFuture, id: usize) -> Pushed;
 }
 
 impl Pushing for Bounded {
-    fn push(set: &mut Kept<Set<(), Bounded>>, value: NumberFuture) -> Result<Key, NumberFuture> {
+    fn push(set: &mut Untagged<Bounded>, value: NumberFuture) -> Result<Key, NumberFuture> {
         set.try_push(value)
     }
 
-    fn push_by_number(
-        set: &mut Kept<Set<usize, Bounded>>,
-        value: NumberFuture,
-        id: usize,
-    ) -> Result<Key, (NumberFuture, usize)> {
+    fn push_by_number(set: &mut Tagged<Bounded>, value: NumberFuture, id: usize) -> Pushed {
         set.try_push_tagged(value, id)
     }
 }
 
 impl Pushing for Growing {
-    fn push(set: &mut Kept<Set<(), Growing>>, value: NumberFuture) -> Result<Key, NumberFuture> {
+    fn push(set: &mut Untagged<Growing>, value: NumberFuture) -> Result<Key, NumberFuture> {
         set.push(value)
     }
 
-    fn push_by_number(
-        set: &mut Kept<Set<usize, Growing>>,
-        value: NumberFuture,
-        id: usize,
-    ) -> Result<Key, (NumberFuture, usize)> {
+    fn push_by_number(set: &mut Tagged<Growing>, value: NumberFuture, id: usize) -> Pushed {
         set.push_tagged(value, id)
     }
 }
@@ -75,9 +68,9 @@ fn refusal<K: Kind>(was_full: bool) -> Reply {
     }
 }
 
-fn ask_set<T: Drop, K: Kind>(set: &Set<T, K>, query: Query, text: &mut String) -> Reply {
-    ask!(set, query, text, Len len, IsEmpty is_empty, Capacity capacity, IsFull is_full,
-        SizeHint size_hint, IsTerminated is_terminated)
+fn ask_set<T: Drop, K: Kind>(set: &Set<T, K>, word: &str, text: &mut Text) -> Reply {
+    ask!(set, word, text, Number len, Is is_empty, Number capacity, Is is_full, Hint size_hint,
+        Is is_terminated)
 }
 
 impl<K: Pushing> KitSet<K> {
@@ -94,7 +87,7 @@ impl<K: Pushing> KitSet<K> {
                 if let Some(place) = self.keys.get_mut(id) {
                     *place = Some(key);
                 }
-                Reply::Ok
+                Reply::Done(())
             }
             Err((_value, tag)) if tag == id => refusal::<K>(was_full),
             Err(_) => Reply::Nothing,
@@ -108,13 +101,13 @@ impl<K: Pushing> KitSet<K> {
         }
     }
 
-    // The answer with an output, whose key and tag are of one push.
-    fn given(&self, came: Came<Output, usize>) -> Answer {
+    // The reply with an output, whose key and tag are of one push.
+    fn given(&self, came: Came<Output, usize>) -> Reply {
         let Came { key, tag, output } = came;
         if self.key_of(tag) == Some(key) {
-            output.answer()
+            output.reply()
         } else {
-            Answer::Nothing
+            Reply::Nothing
         }
     }
 
@@ -123,7 +116,7 @@ impl<K: Pushing> KitSet<K> {
             return Reply::Nothing;
         };
         match self.set.cancel(key) {
-            Some(tag) if tag == id => Reply::Ok,
+            Some(tag) if tag == id => Reply::Done(()),
             Some(_) => Reply::Nothing,
             None => Reply::None,
         }
@@ -138,49 +131,47 @@ impl<K: Pushing> KitSet<K> {
 }
 
 impl<K: Pushing> Subject<AllTypes> for KitSet<K> {
-    fn poll(&mut self, cx: &mut Context<'_>, _outputs: &mut Vec<u64>) -> Answer {
+    fn poll(&mut self, cx: &mut Context<'_>, _outputs: &mut Vec<u64>) -> Reply {
         match self.set.poll_next_keyed(cx) {
-            Poll::Pending => Answer::Pending,
-            Poll::Ready(None) => Answer::None,
+            Poll::Pending => Reply::Pending,
+            Poll::Ready(None) => Reply::None,
             Poll::Ready(Some(came)) => self.given(came),
         }
     }
 
-    fn call(&mut self, call: Call<'_>, world: &SharedWorld, text: &mut String) -> Reply {
-        match call {
-            Call::Push(End::Any, id) => self.push(Made::new(world, id), id),
-            Call::Cancel(id) => self.cancel(id),
-            Call::Contains(id) => self.contains(id),
-            Call::Clear => self.set.clear().told(),
-            Call::Ask(query) => ask_set(self.set.get(), query, text),
-            _ => Reply::Nothing,
+    fn call(&mut self, word: &str, ids: &[usize], world: &SharedWorld, text: &mut Text) -> Reply {
+        match word {
+            "push" => self.push(new_value(world, ids), first_of(ids)),
+            "cancel" => self.cancel(first_of(ids)),
+            "contains" => self.contains(first_of(ids)),
+            "clear" => Reply::Done(self.set.clear()),
+            _ => ask_set(self.set.get(), word, text),
         }
     }
 }
 
 // A set without tags.
-impl<K: Pushing> Subject<AllTypes> for Kept<Set<(), K>> {
-    fn poll(&mut self, cx: &mut Context<'_>, _outputs: &mut Vec<u64>) -> Answer {
+impl<K: Pushing> Subject<AllTypes> for Untagged<K> {
+    fn poll(&mut self, cx: &mut Context<'_>, _outputs: &mut Vec<u64>) -> Reply {
         of_next(self.poll_next(cx))
     }
 
-    fn call(&mut self, call: Call<'_>, world: &SharedWorld, text: &mut String) -> Reply {
-        match call {
-            Call::Push(End::Any, id) => {
+    fn call(&mut self, word: &str, ids: &[usize], world: &SharedWorld, text: &mut Text) -> Reply {
+        match word {
+            "push" => {
                 let was_full = self.get().is_full();
-                let pushed = K::push(self, Made::new(world, id)).map(|_key| ());
+                let pushed = K::push(self, new_value(world, ids)).map(|_key| ());
                 of_push(pushed, refusal::<K>(was_full))
             }
-            Call::Clear => self.clear().told(),
-            Call::Ask(query) => ask_set(self.get(), query, text),
-            _ => Reply::Nothing,
+            "clear" => Reply::Done(self.clear()),
+            _ => ask_set(self.get(), word, text),
         }
     }
 }
 
 /// A set of as many slots as the line says.
-pub fn bounded(session: &Session, numbers: &[usize]) -> Result<KitSet<Bounded>, NewFault> {
-    let alloc = session.options.alloc;
+pub fn bounded(session: &Session, numbers: &[usize]) -> NewResult<KitSet<Bounded>> {
+    let alloc = session.alloc;
     let set: Set<usize, Bounded> = FuturesUnorderedBounded::new(alloc, first_of(numbers))?;
     let set = Kept::new(set);
     let keys = Vec::new(alloc);
@@ -188,8 +179,8 @@ pub fn bounded(session: &Session, numbers: &[usize]) -> Result<KitSet<Bounded>, 
 }
 
 /// A set that grows, of as many slots as the line says, or of none.
-pub fn growing(session: &Session, numbers: &[usize]) -> Result<KitSet<Growing>, NewFault> {
-    let alloc = session.options.alloc;
+pub fn growing(session: &Session, numbers: &[usize]) -> NewResult<KitSet<Growing>> {
+    let alloc = session.alloc;
     let set: Set<usize, Growing> = if numbers.is_empty() {
         FuturesUnordered::new(alloc)?
     } else {
@@ -201,13 +192,13 @@ pub fn growing(session: &Session, numbers: &[usize]) -> Result<KitSet<Growing>, 
 }
 
 /// A set of the futures of the line.
-pub fn bounded_of(session: &Session, ids: &[usize]) -> Result<Kept<Set<(), Bounded>>, NewFault> {
+pub fn bounded_of(session: &Session, ids: &[usize]) -> NewResult<Untagged<Bounded>> {
     let futures: Vec<NumberFuture> = new_values(&session.world, ids);
-    Ok(Kept::new(futures.into_unordered_stream(session.options.alloc)?))
+    Ok(Kept::new(futures.into_unordered_stream(session.alloc)?))
 }
 
 /// A set that grows of the futures of the line.
-pub fn growing_of(session: &Session, ids: &[usize]) -> Result<Kept<Set<(), Growing>>, NewFault> {
+pub fn growing_of(session: &Session, ids: &[usize]) -> NewResult<Untagged<Growing>> {
     let futures: Vec<NumberFuture> = new_values(&session.world, ids);
-    Ok(Kept::new(futures.into_unordered_stream_unbounded(session.options.alloc)?))
+    Ok(Kept::new(futures.into_unordered_stream_unbounded(session.alloc)?))
 }

@@ -1,15 +1,15 @@
 //! Merges of streams.
 use crate::ask::ask;
 use crate::kinds::AllTypes;
-use calls_world::answer::{Answer, Item, Reply, Told, of_next, of_push};
-use calls_world::session::{Options, Session};
-use calls_world::subject::{Call, Subject};
-use calls_world::values::{Made, NumberStream, new_values};
+use calls_world::reply::{Item, Reply, of_next, of_push};
+use calls_world::session::Session;
+use calls_world::subject::{NewResult, Subject};
+use calls_world::text::Text;
+use calls_world::values::{Made, NumberStream, new_value, new_values};
 use calls_world::world::SharedWorld;
 use futures::Stream;
 use futures::task::Context;
 use futures_buffered::IterExt;
-use futures_buffered_core::ready_core::NewFault;
 use futures_buffered_core::ready_shared::SharedReady;
 use futures_buffered_core::ready_source::{NewSource, ReadySource};
 use futures_buffered_sets::{FusedStream, MergeBounded, MergeUnbounded, SizeHint, SlotStream};
@@ -24,19 +24,16 @@ where
 {
     ghost can_poll = { (stream : St) → St.can_poll stream };
 
-    fn poll(&mut self, cx: &mut Context<'_>, _outputs: &mut Vec<u64>) -> Answer {
+    fn poll(&mut self, cx: &mut Context<'_>, _outputs: &mut Vec<u64>) -> Reply {
         of_next(self.poll_next(cx))
     }
 
-    fn call(&mut self, call: Call<'_>, world: &SharedWorld, text: &mut String) -> Reply {
-        match call {
-            Call::Push(_, id) => of_push(self.try_push(Made::new(world, id)), Reply::Full),
-            Call::Extend(ids) => of_push(self.extend(new_values(world, ids)), Reply::Full),
-            Call::Clear => self.clear().told(),
-            Call::Ask(query) => ask!(self, query, text, Len len, IsEmpty is_empty,
-                Capacity capacity, IsFull is_full, SizeHint size_hint,
-                IsTerminated is_terminated),
-            _ => Reply::Nothing,
+    fn call(&mut self, word: &str, ids: &[usize], world: &SharedWorld, text: &mut Text) -> Reply {
+        match word {
+            "push" => of_push(self.try_push(new_value(world, ids)), Reply::Full),
+            "extend" => of_push(self.extend(new_values(world, ids)), Reply::Full),
+            _ => ask!(self, word, text, Done clear, Number len, Is is_empty, Number capacity,
+                Is is_full, Hint size_hint, Is is_terminated),
         }
     }
 }
@@ -47,25 +44,23 @@ where
 {
     ghost can_poll = { (stream : St) → St.can_poll stream };
 
-    fn poll(&mut self, cx: &mut Context<'_>, _outputs: &mut Vec<u64>) -> Answer {
+    fn poll(&mut self, cx: &mut Context<'_>, _outputs: &mut Vec<u64>) -> Reply {
         of_next(self.poll_next(cx))
     }
 
-    fn call(&mut self, call: Call<'_>, world: &SharedWorld, text: &mut String) -> Reply {
-        match call {
-            Call::Push(_, id) => of_push(self.push(Made::new(world, id)), Reply::Refused),
-            Call::Extend(ids) => of_push(self.extend(new_values(world, ids)), Reply::Refused),
-            Call::Clear => self.clear().told(),
-            Call::Ask(query) => ask!(self, query, text, Len len, IsEmpty is_empty,
-                Capacity capacity, SizeHint size_hint, IsTerminated is_terminated),
-            _ => Reply::Nothing,
+    fn call(&mut self, word: &str, ids: &[usize], world: &SharedWorld, text: &mut Text) -> Reply {
+        match word {
+            "push" => of_push(self.push(new_value(world, ids)), Reply::Refused),
+            "extend" => of_push(self.extend(new_values(world, ids)), Reply::Refused),
+            _ => ask!(self, word, text, Done clear, Number len, Is is_empty, Number capacity,
+                Hint size_hint, Is is_terminated),
         }
     }
 }
 
-pub fn bounded(session: &Session, ids: &[usize]) -> Result<Merge, NewFault> {
+pub fn bounded(session: &Session, ids: &[usize]) -> NewResult<Merge> {
     let streams: Vec<NumberStream> = new_values(&session.world, ids);
-    let alloc = session.options.alloc;
+    let alloc = session.alloc;
     match session.options.limit {
         Some(limit) if limit > 0 && session.options.takes_source => {
             MergeBounded::over_limit(&(), alloc, streams, limit)
@@ -76,29 +71,18 @@ pub fn bounded(session: &Session, ids: &[usize]) -> Result<Merge, NewFault> {
     }
 }
 
-fn growing_of(session: &Session, streams: Vec<NumberStream>) -> Result<GrowingMerge, NewFault> {
-    let alloc = session.options.alloc;
+pub fn growing(session: &Session, ids: &[usize]) -> NewResult<GrowingMerge> {
+    let streams: Vec<NumberStream> = new_values(&session.world, ids);
+    let alloc = session.alloc;
+    let is_of_none = ids.is_empty() && !session.options.takes_source;
     match session.options.limit {
+        Some(limit) if limit > 0 && is_of_none => Ok(MergeUnbounded::with_limit(alloc, limit)),
         Some(limit) if limit > 0 => MergeUnbounded::over_limit((), alloc, streams, limit),
+        _ if is_of_none => Ok(MergeUnbounded::new(alloc)),
         _ if session.options.takes_source => MergeUnbounded::over((), alloc, streams),
         _ if session.options.is_filtered => {
             MergeUnbounded::from_iter(alloc, streams.into_iter().filter(|_| true))
         }
         _ => streams.merge_unbounded(alloc),
     }
-}
-
-// A merge of none.
-fn empty(options: &Options) -> GrowingMerge {
-    match options.limit {
-        Some(limit) if limit > 0 => MergeUnbounded::with_limit(options.alloc, limit),
-        _ => MergeUnbounded::new(options.alloc),
-    }
-}
-
-pub fn growing(session: &Session, ids: &[usize]) -> Result<GrowingMerge, NewFault> {
-    if ids.is_empty() && !session.options.takes_source {
-        return Ok(empty(&session.options));
-    }
-    growing_of(session, new_values(&session.world, ids))
 }

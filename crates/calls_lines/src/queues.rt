@@ -1,16 +1,15 @@
 //! Ordered queues of futures.
 use crate::ask::ask;
 use crate::kinds::AllTypes;
-use calls_world::answer::{Answer, Item, Reply, Told, of_full, of_next, of_push};
-use calls_world::command::End;
+use calls_world::reply::{Item, Reply, of_full, of_next, of_push};
 use calls_world::session::{Session, first_of};
-use calls_world::subject::{Call, Subject};
-use calls_world::values::{Made, NumberFuture, new_values};
+use calls_world::subject::{NewResult, Subject};
+use calls_world::text::Text;
+use calls_world::values::{Made, NumberFuture, new_value, new_values};
 use calls_world::world::SharedWorld;
 use futures::Stream;
 use futures::task::Context;
 use futures_buffered::IterExt;
-use futures_buffered_core::ready_core::NewFault;
 use futures_buffered_core::ready_shared::SharedReady;
 use futures_buffered_core::ready_source::{NewSource, ReadySource};
 use futures_buffered_sets::{
@@ -28,29 +27,26 @@ where
 {
     ghost can_poll = { (future : F) → F.can_poll future };
 
-    fn poll(&mut self, cx: &mut Context<'_>, _outputs: &mut Vec<u64>) -> Answer {
+    fn poll(&mut self, cx: &mut Context<'_>, _outputs: &mut Vec<u64>) -> Reply {
         of_next(self.poll_next(cx))
     }
 
-    fn call(&mut self, call: Call<'_>, world: &SharedWorld, text: &mut String) -> Reply {
-        match call {
-            Call::Push(End::Any, _) => Reply::Nothing,
-            Call::Push(end, id) => {
-                let value = Made::new(world, id);
-                let pushed = match end {
-                    End::Front => self.try_push_front(value),
-                    _ => self.try_push_back(value),
-                };
+    fn call(&mut self, word: &str, ids: &[usize], world: &SharedWorld, text: &mut Text) -> Reply {
+        match word {
+            "push_back" => {
+                let pushed = self.try_push_back(new_value(world, ids));
                 of_full(pushed, self.is_full(), Reply::Refused)
             }
-            Call::Extend(ids) => {
+            "push_front" => {
+                let pushed = self.try_push_front(new_value(world, ids));
+                of_full(pushed, self.is_full(), Reply::Refused)
+            }
+            "extend" => {
                 let extended = self.extend(new_values(world, ids));
                 of_full(extended, self.is_full(), Reply::Refused)
             }
-            Call::Clear => self.clear().told(),
-            Call::Ask(query) => ask!(self, query, text, Len len, Capacity capacity, Limit limit,
-                IsFull is_full, SizeHint size_hint, IsTerminated is_terminated),
-            _ => Reply::Nothing,
+            _ => ask!(self, word, text, Done clear, Number len, Number capacity, Number limit,
+                Is is_full, Hint size_hint, Is is_terminated),
         }
     }
 }
@@ -61,30 +57,23 @@ where
 {
     ghost can_poll = { (future : F) → F.can_poll future };
 
-    fn poll(&mut self, cx: &mut Context<'_>, _outputs: &mut Vec<u64>) -> Answer {
+    fn poll(&mut self, cx: &mut Context<'_>, _outputs: &mut Vec<u64>) -> Reply {
         of_next(self.poll_next(cx))
     }
 
-    fn call(&mut self, call: Call<'_>, world: &SharedWorld, text: &mut String) -> Reply {
-        match call {
-            Call::Push(End::Back, id) => {
-                of_push(self.push_back(Made::new(world, id)), Reply::Refused)
-            }
-            Call::Push(End::Front, id) => {
-                of_push(self.push_front(Made::new(world, id)), Reply::Refused)
-            }
-            Call::Extend(ids) => of_push(self.extend(new_values(world, ids)), Reply::Refused),
-            Call::Clear => self.clear().told(),
-            Call::Ask(query) => ask!(self, query, text, Len len, Limit limit, SizeHint size_hint,
-                IsTerminated is_terminated),
-            _ => Reply::Nothing,
+    fn call(&mut self, word: &str, ids: &[usize], world: &SharedWorld, text: &mut Text) -> Reply {
+        match word {
+            "push_back" => of_push(self.push_back(new_value(world, ids)), Reply::Refused),
+            "push_front" => of_push(self.push_front(new_value(world, ids)), Reply::Refused),
+            "extend" => of_push(self.extend(new_values(world, ids)), Reply::Refused),
+            _ => ask!(self, word, text, Done clear, Number len, Number limit, Hint size_hint,
+                Is is_terminated),
         }
     }
 }
 
-pub fn bounded(session: &Session, numbers: &[usize]) -> Result<Queue, NewFault> {
-    let alloc = session.options.alloc;
-    let n = first_of(numbers);
+pub fn bounded(session: &Session, numbers: &[usize]) -> NewResult<Queue> {
+    let (alloc, n) = (session.alloc, first_of(numbers));
     match session.options.limit {
         Some(limit) if limit > 0 && session.options.takes_source => {
             FuturesOrderedBounded::over_limit(&(), alloc, n, limit)
@@ -95,14 +84,13 @@ pub fn bounded(session: &Session, numbers: &[usize]) -> Result<Queue, NewFault> 
     }
 }
 
-pub fn bounded_of(session: &Session, ids: &[usize]) -> Result<Queue, NewFault> {
+pub fn bounded_of(session: &Session, ids: &[usize]) -> NewResult<Queue> {
     let futures: Vec<NumberFuture> = new_values(&session.world, ids);
-    futures.into_ordered_stream(session.options.alloc)
+    futures.into_ordered_stream(session.alloc)
 }
 
-pub fn growing(session: &Session, numbers: &[usize]) -> Result<GrowingQueue, NewFault> {
-    let alloc = session.options.alloc;
-    let n = first_of(numbers);
+pub fn growing(session: &Session, numbers: &[usize]) -> NewResult<GrowingQueue> {
+    let (alloc, n) = (session.alloc, first_of(numbers));
     match session.options.limit {
         Some(limit) if limit > 0 && session.options.takes_source => {
             FuturesOrdered::over_limit((), alloc, n, limit)
@@ -114,9 +102,9 @@ pub fn growing(session: &Session, numbers: &[usize]) -> Result<GrowingQueue, New
     }
 }
 
-pub fn growing_of(session: &Session, ids: &[usize]) -> Result<GrowingQueue, NewFault> {
+pub fn growing_of(session: &Session, ids: &[usize]) -> NewResult<GrowingQueue> {
     let futures: Vec<NumberFuture> = new_values(&session.world, ids);
-    let alloc = session.options.alloc;
+    let alloc = session.alloc;
     if session.options.is_filtered {
         return FuturesOrdered::from_iter(alloc, futures.into_iter().filter(|_| true));
     }

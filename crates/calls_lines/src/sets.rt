@@ -1,12 +1,12 @@
 //! Sets of futures.
 use crate::ask::ask;
 use crate::kinds::AllTypes;
-use calls_world::answer::{Answer, Item, Reply, Told, of_next, of_push};
-use calls_world::command::End;
-use calls_world::session::{Options, Session, first_of};
-use calls_world::subject::{Call, Subject};
-use calls_world::values::{Made, NumberFuture, new_values};
-use calls_world::world::SharedWorld;
+use calls_world::reply::{Item, Reply, of_next, of_push};
+use calls_world::session::{Session, first_of};
+use calls_world::subject::{NewResult, Subject};
+use calls_world::text::Text;
+use calls_world::values::{Made, NumberFuture, new_value, new_values};
+use calls_world::world::{Fault, SharedWorld};
 use futures::Stream;
 use futures::task::Context;
 use futures_buffered::IterExt;
@@ -32,56 +32,44 @@ where
 {
     ghost can_poll = { (future : F) → F.can_poll future };
 
-    fn poll(&mut self, cx: &mut Context<'_>, _outputs: &mut Vec<u64>) -> Answer {
+    fn poll(&mut self, cx: &mut Context<'_>, _outputs: &mut Vec<u64>) -> Reply {
         of_next(self.poll_next(cx))
     }
 
-    fn call(&mut self, call: Call<'_>, world: &SharedWorld, text: &mut String) -> Reply {
-        match call {
-            Call::Push(End::Any, id) => of_push(self.try_push(Made::new(world, id)), Reply::Full),
-            Call::Extend(ids) => of_push(self.extend(new_values(world, ids)), Reply::Full),
-            Call::Clear => self.clear().told(),
-            Call::Ask(query) => ask!(self, query, text, Len len, Capacity capacity, Limit limit,
-                IsFull is_full, SizeHint size_hint, IsTerminated is_terminated),
-            _ => Reply::Nothing,
+    fn call(&mut self, word: &str, ids: &[usize], world: &SharedWorld, text: &mut Text) -> Reply {
+        match word {
+            "push" => of_push(self.try_push(new_value(world, ids)), Reply::Full),
+            "extend" => of_push(self.extend(new_values(world, ids)), Reply::Full),
+            _ => ask!(self, word, text, Done clear, Number len, Number capacity, Number limit,
+                Is is_full, Hint size_hint, Is is_terminated),
         }
     }
 }
 
-fn set_over(options: &Options, n: usize) -> Result<Set, NewFault> {
-    match options.limit {
-        Some(limit) if limit > 0 => {
-            FuturesUnorderedBounded::with_new_source(&(), options.alloc, n, limit)
+pub fn bounded(session: &Session, numbers: &[usize]) -> NewResult<Set> {
+    let (alloc, n) = (session.alloc, first_of(numbers));
+    match session.options.limit {
+        Some(limit) if limit > 0 && session.options.takes_source => {
+            FuturesUnorderedBounded::with_new_source(&(), alloc, n, limit)
         }
-        _ => {
-            let source = SharedReady::new(options.alloc, n)?;
-            FuturesUnorderedBounded::with_source(options.alloc, source)
+        Some(limit) if limit > 0 => FuturesUnorderedBounded::with_limit(alloc, n, limit),
+        _ if session.options.takes_source => {
+            FuturesUnorderedBounded::with_source(alloc, SharedReady::new(alloc, n)?)
         }
+        _ => FuturesUnorderedBounded::new(alloc, n),
     }
 }
 
-pub fn bounded(session: &Session, numbers: &[usize]) -> Result<Set, NewFault> {
-    let options = &session.options;
-    let n = first_of(numbers);
-    match options.limit {
-        _ if options.takes_source => set_over(options, n),
-        Some(limit) if limit > 0 => FuturesUnorderedBounded::with_limit(options.alloc, n, limit),
-        _ => FuturesUnorderedBounded::new(options.alloc, n),
-    }
-}
-
-pub fn bounded_of(session: &Session, ids: &[usize]) -> Result<Set, NewFault> {
+pub fn bounded_of(session: &Session, ids: &[usize]) -> NewResult<Set> {
     let futures: Vec<NumberFuture> = new_values(&session.world, ids);
-    let options = &session.options;
-    match options.limit {
-        Some(limit) if limit > 0 => {
-            FuturesUnorderedBounded::over_limit(&(), options.alloc, futures, limit)
+    let alloc = session.alloc;
+    match session.options.limit {
+        Some(limit) if limit > 0 => FuturesUnorderedBounded::over_limit(&(), alloc, futures, limit),
+        _ if session.options.takes_source => FuturesUnorderedBounded::over(&(), alloc, futures),
+        _ if session.options.is_filtered => {
+            FuturesUnorderedBounded::from_iter(alloc, futures.into_iter().filter(|_| true))
         }
-        _ if options.takes_source => FuturesUnorderedBounded::over(&(), options.alloc, futures),
-        _ if options.is_filtered => {
-            FuturesUnorderedBounded::from_iter(options.alloc, futures.into_iter().filter(|_| true))
-        }
-        _ => futures.into_unordered_stream(options.alloc),
+        _ => futures.into_unordered_stream(alloc),
     }
 }
 
@@ -91,25 +79,22 @@ where
 {
     ghost can_poll = { (future : F) → F.can_poll future };
 
-    fn poll(&mut self, cx: &mut Context<'_>, _outputs: &mut Vec<u64>) -> Answer {
+    fn poll(&mut self, cx: &mut Context<'_>, _outputs: &mut Vec<u64>) -> Reply {
         of_next(self.poll_next(cx))
     }
 
-    fn call(&mut self, call: Call<'_>, world: &SharedWorld, text: &mut String) -> Reply {
-        match call {
-            Call::Push(End::Any, id) => of_push(self.push(Made::new(world, id)), Reply::Refused),
-            Call::Extend(ids) => of_push(self.extend(new_values(world, ids)), Reply::Refused),
-            Call::Clear => self.clear().told(),
-            Call::Ask(query) => ask!(self, query, text, Len len, Capacity capacity, Limit limit,
-                SizeHint size_hint, IsTerminated is_terminated),
-            _ => Reply::Nothing,
+    fn call(&mut self, word: &str, ids: &[usize], world: &SharedWorld, text: &mut Text) -> Reply {
+        match word {
+            "push" => of_push(self.push(new_value(world, ids)), Reply::Refused),
+            "extend" => of_push(self.extend(new_values(world, ids)), Reply::Refused),
+            _ => ask!(self, word, text, Done clear, Number len, Number capacity, Number limit,
+                Hint size_hint, Is is_terminated),
         }
     }
 }
 
-pub fn growing(session: &Session, numbers: &[usize]) -> Result<GrowingSet, NewFault> {
-    let alloc = session.options.alloc;
-    let n = first_of(numbers);
+pub fn growing(session: &Session, numbers: &[usize]) -> NewResult<GrowingSet> {
+    let (alloc, n) = (session.alloc, first_of(numbers));
     match session.options.limit {
         Some(limit) if limit > 0 && session.options.takes_source => {
             FuturesUnordered::over_limit((), alloc, n, limit)
@@ -140,19 +125,19 @@ fn growing_of_filtered(
     alloc: Global,
     world: &SharedWorld,
     futures: Vec<NumberFuture>,
-) -> Result<GrowingSet, NewFault> {
+) -> NewResult<GrowingSet> {
     let draws = AtomicU64::new(0);
     let items = futures.into_iter().filter(|_| is_drawn(&draws));
     let made = FuturesUnordered::from_iter(alloc, items);
     if matches!(made, Err(NewFault::Memory)) && !asks_for_memory(draws.load(SeqCst)) {
-        world.misuse();
+        world.fail(Fault::Misuse);
     }
     made
 }
 
-pub fn growing_of(session: &Session, ids: &[usize]) -> Result<GrowingSet, NewFault> {
+pub fn growing_of(session: &Session, ids: &[usize]) -> NewResult<GrowingSet> {
     let futures: Vec<NumberFuture> = new_values(&session.world, ids);
-    let alloc = session.options.alloc;
+    let alloc = session.alloc;
     if session.options.is_filtered {
         growing_of_filtered(alloc, &session.world, futures)
     } else {

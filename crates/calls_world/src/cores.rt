@@ -1,75 +1,62 @@
 //! A list of events on a ready core, and one of steps on a machine, which is made for them.
-use crate::answer::{Reply, append_reply, fault_word};
-use crate::line::split_call;
-use crate::memory;
-use crate::numbers::number;
+use crate::reply::Reply;
 use crate::report::Report;
 use crate::session::Session;
 use crate::text::Text;
-use futures_buffered_core::ready_core::{self, Event, NewFault, ReadyCore, RunFault, Taken, Woke};
+use crate::words::{Listed, number, push_words, split_word};
+use futures_buffered_core::ready_core::{self, Event, ReadyCore, RunFault, Taken, Woke};
 use futures_buffered_table::ready_table::{self, Step, StepFault, StepReply};
 use std::alloc::Global;
 
-/// What is done in turn. It stands in a line with commas between, as `mark 2, take*3`.
-trait Listed: Copy + Drop {
-    fn of_words(words: &str) -> Option<Self>;
+// What is done so often stands in a line as `take*3`.
+fn split_times(word: &str) -> Option<(&str, usize)> {
+    match word.split_once('*') {
+        Some((word, times)) => Some((word, number(times)?)),
+        None => Some((word, 1)),
+    }
 }
 
 impl Listed for Event {
-    fn of_words(words: &str) -> Option<Event> {
-        if words == "take" {
-            return Some(Event::Take);
-        }
-        Some(Event::Mark(number(words.strip_prefix("mark ")?)?))
+    fn read(word: &str) -> Option<(Event, usize)> {
+        let (words, times) = split_times(word)?;
+        let event = match words {
+            "take" => Event::Take,
+            words => Event::Mark(number(words.strip_prefix("mark ")?)?),
+        };
+        Some((event, times))
     }
+
+    fn after(self, _places: usize) -> Event {
+        self
+    }
+}
+
+fn step_of(words: &str) -> Option<Step> {
+    if words == "step" {
+        return Some(Step::Poll);
+    }
+    let (word, rest) = words.split_once(' ')?;
+    Some(match (word, rest.split_once(' ')) {
+        ("go", None) => Step::Go {
+            seat: number(rest)?,
+        },
+        ("mark", Some((seat, slot))) => Step::Mark {
+            seat: number(seat)?,
+            slot: number(slot)?,
+        },
+        _ => return None,
+    })
 }
 
 impl Listed for Step {
-    fn of_words(words: &str) -> Option<Step> {
-        if words == "step" {
-            return Some(Step::Poll);
-        }
-        if let Some(seat) = words.strip_prefix("go ") {
-            return Some(Step::Go {
-                seat: number(seat)?,
-            });
-        }
-        let (seat, slot) = words.strip_prefix("mark ")?.split_once(' ')?;
-        Some(Step::Mark {
-            seat: number(seat)?,
-            slot: number(slot)?,
-        })
+    fn read(word: &str) -> Option<(Step, usize)> {
+        let (words, times) = split_times(word)?;
+        Some((step_of(words)?, times))
     }
-}
 
-fn push_times<T: Listed>(list: &mut Vec<T>, item: T, times: usize) -> bool {
-    for _ in 0..times {
-        if !memory::push(list, item) {
-            return false;
-        }
+    fn after(self, _places: usize) -> Step {
+        self
     }
-    true
-}
-
-fn push_part<T: Listed>(list: &mut Vec<T>, part: &str) -> bool {
-    let (words, times) = match part.split_once('*') {
-        Some((words, times)) => (words, number(times)),
-        None => (part, Some(1)),
-    };
-    match (T::of_words(words), times) {
-        (Some(item), Some(times)) => push_times(list, item, times),
-        _ => false,
-    }
-}
-
-// Adds what the words name, in order. Whether each part names something.
-fn push_parts<T: Listed>(list: &mut Vec<T>, words: &str) -> bool {
-    for part in words.split(", ") {
-        if !push_part(list, part) {
-            return false;
-        }
-    }
-    true
 }
 
 /// A reply of a core or of a machine.
@@ -83,10 +70,7 @@ impl Replied for StepReply {
             StepReply::More => text.append("more"),
             StepReply::Woke(Woke::Fresh) => text.append("fresh"),
             StepReply::Woke(Woke::Already) => text.append("already"),
-            StepReply::Taken(Taken::Slot(slot)) => {
-                text.append("slot ");
-                text.append_number(slot as u64);
-            }
+            StepReply::Taken(Taken::Slot(slot)) => text.append(format_args!("slot {slot}")),
             StepReply::Taken(Taken::Empty) => text.append("empty"),
             StepReply::Taken(Taken::Pause) => text.append("pause"),
         }
@@ -103,7 +87,7 @@ impl Replied for ready_core::Reply {
 }
 
 // One that comes three times or more in a row stands once, with how often.
-fn append_times<T: Replied>(text: &mut Text, reply: T, times: u64) {
+fn append_times<T: Replied>(text: &mut Text, reply: T, times: usize) {
     if !text.string.is_empty() {
         text.append(", ");
     }
@@ -112,43 +96,25 @@ fn append_times<T: Replied>(text: &mut Text, reply: T, times: u64) {
         text.append(", ");
         reply.append(text);
     } else if times > 2 {
-        text.append("*");
-        text.append_number(times);
+        text.append(format_args!("*{times}"));
     }
 }
 
 // Appends the replies in order.
-fn append_replies<T: Replied>(text: &mut Text, replies: &[T]) {
-    let Some((first, rest)) = replies.split_first() else {
-        return text.append("-");
-    };
-    let mut last = *first;
-    let mut times = 1u64;
-    for reply in rest {
-        if *reply == last {
-            times = times.saturating_add(1);
-        } else {
-            append_times(text, last, times);
-            last = *reply;
-            times = 1;
+fn append_replies<T: Replied>(text: &mut Text, replies: &[T]) -> Reply {
+    if replies.is_empty() {
+        text.append("-");
+    }
+    for run in replies.chunk_by(|reply, next| *reply == *next) {
+        if let Some(reply) = run.first() {
+            append_times(text, *reply, run.len());
         }
     }
-    append_times(text, last, times);
-}
-
-// If memory is refused, the core is asked for once more.
-fn new_core(alloc: Global, slots: usize, report: &mut Report) -> Result<ReadyCore, NewFault> {
-    match ReadyCore::new(alloc, slots) {
-        Err(NewFault::Memory) => {}
-        made => return made,
-    }
-    let made = ReadyCore::new(alloc, slots);
-    report.count_again(made.is_ok());
-    made
+    Reply::Written
 }
 
 // If memory is refused, and there is no reply, the run is made once more.
-fn run(
+fn run_twice(
     core: &mut ReadyCore,
     events: &[Event],
     replies: &mut Vec<ready_core::Reply>,
@@ -163,7 +129,8 @@ fn run(
     done
 }
 
-fn make_steps(
+// If memory is refused, the steps are made once more.
+fn steps_twice(
     alloc: Global,
     slots: usize,
     steps: &[Step],
@@ -171,75 +138,66 @@ fn make_steps(
 ) -> Result<Vec<StepReply>, StepFault> {
     match ready_table::steps(alloc, slots, steps) {
         Err(StepFault::Memory) => {}
-        made => return made,
+        done => return done,
     }
-    let made = ready_table::steps(alloc, slots, steps);
-    report.count_again(made.is_ok());
-    made
+    let done = ready_table::steps(alloc, slots, steps);
+    report.count_again(done.is_ok());
+    done
 }
 
 impl Session {
     /// Keeps a new core of as many slots as the line says, for `run`.
-    pub fn begin_core(&mut self, rest: &str) {
-        let Some(slots) = number(rest) else {
-            return self.reply.append("bad");
-        };
-        match new_core(self.world.alloc, slots, &mut self.report) {
+    pub fn begin_core(&mut self, rest: &str) -> Option<Reply> {
+        let (alloc, slots) = (self.alloc, number(rest)?);
+        Some(match self.report.twice(|| ReadyCore::new(alloc, slots)) {
             Ok(core) => {
                 self.core = Some(core);
-                self.reply.append("ok");
+                Reply::Done(())
             }
-            Err(fault) => self.reply.append(fault_word(fault)),
-        }
+            Err(fault) => Reply::from(fault),
+        })
     }
 
-    // The place of what was refused stands behind the word.
-    fn append_refused(&mut self, word: &str, place: usize) {
-        self.reply.append(word);
-        self.reply.append_number(place as u64);
-    }
-
-    fn run_events(&mut self, events: &[Event]) {
+    fn run_events(&mut self, events: &[Event]) -> Reply {
         let Some(core) = &mut self.core else {
-            return self.reply.append("none");
+            return Reply::None;
         };
-        let mut replies = Vec::new(self.world.alloc);
-        match run(core, events, &mut replies, &mut self.report) {
+        let mut replies = Vec::new(self.alloc);
+        match run_twice(core, events, &mut replies, &mut self.report) {
             Ok(()) => append_replies(&mut self.reply, replies.as_slice()),
-            Err(_) if !replies.is_empty() => append_reply(&mut self.reply, Reply::Changed),
-            Err(RunFault::Event(place)) => self.append_refused("wrong ", place),
-            Err(RunFault::Memory) => self.reply.append(fault_word(NewFault::Memory)),
+            Err(_) if !replies.is_empty() => Reply::Changed,
+            Err(RunFault::Event(place)) => Reply::Wrong(place),
+            Err(RunFault::Memory) => Reply::Refused,
         }
     }
 
     /// Does the events of the line on the core that is kept.
-    pub fn run(&mut self, rest: &str) {
-        let mut events = Vec::new(self.world.alloc);
-        if push_parts(&mut events, rest) {
-            self.run_events(events.as_slice());
-        } else {
-            self.reply.append("bad");
+    pub fn run(&mut self, rest: &str) -> Option<Reply> {
+        let mut events = Vec::new(self.alloc);
+        if rest.is_empty() || push_words(&mut events, rest, ", ").is_none() {
+            return None;
         }
+        Some(self.run_events(events.as_slice()))
     }
 
-    fn step_machine(&mut self, slots: usize, steps: &[Step]) {
-        match make_steps(self.world.alloc, slots, steps, &mut self.report) {
+    fn step_machine(&mut self, slots: usize, steps: &[Step]) -> Reply {
+        match steps_twice(self.alloc, slots, steps, &mut self.report) {
             Ok(replies) => append_replies(&mut self.reply, replies.as_slice()),
-            Err(StepFault::Step(place)) => self.append_refused("stuck ", place),
-            Err(StepFault::TooLarge) => self.reply.append(fault_word(NewFault::TooLarge)),
-            Err(StepFault::Memory) => self.reply.append(fault_word(NewFault::Memory)),
+            Err(StepFault::Step(place)) => Reply::Stuck(place),
+            Err(StepFault::TooLarge) => Reply::TooLarge,
+            Err(StepFault::Memory) => Reply::Refused,
         }
     }
 
     /// Makes the steps of the line on a new machine of as many slots as it says.
-    pub fn steps(&mut self, rest: &str) {
-        let mut steps = Vec::new(self.world.alloc);
-        let (slots, words) = split_call(rest);
+    pub fn steps(&mut self, rest: &str) -> Option<Reply> {
+        let mut steps = Vec::new(self.alloc);
+        let (slots, words) = split_word(rest);
         match number(slots) {
-            Some(slots) if push_parts(&mut steps, words) => {
-                self.step_machine(slots, steps.as_slice());
+            Some(slots) if !words.is_empty() && push_words(&mut steps, words, ", ").is_some() => {
+                Some(self.step_machine(slots, steps.as_slice()))
             }
-            _ => self.reply.append("bad"),
+            _ => None,
         }
     }
 }

@@ -11,8 +11,8 @@ const QUESTION: usize = 70_368_744_177_664;
 pub struct Counter {
     alloc: Global,
     is_on: bool,
-    /// How many bytes each call of the line may ask for, if the line says so.
-    pub within: Option<usize>,
+    // How many bytes each call of the line may ask for, if the line says so.
+    within: Option<usize>,
     /// How many a poll may ask for, if its line does not say.
     pub of_polls: Option<usize>,
     // How many the call may ask for that was begun last.

@@ -1,22 +1,18 @@
-//! A line of a file of tests, as its parts.
-use crate::command::{Command, Kind, command_of};
-use crate::numbers::number;
+//! The lines of a file of tests, as their parts.
+use crate::memory;
+use crate::words::{number, split_word};
+use std::alloc::{AllocError, Global};
 
-/// What a line is.
+/// A line that is no remark: the head of a test, or a call and the reply that is wanted.
 #[derive(Clone, Copy)]
-pub enum Line<'a> {
-    /// Empty, or a remark.
-    Remark,
-    /// The head of a test, with its name.
-    Test(&'a str),
-    /// A call, and the reply that is wanted.
-    Call(&'a str, Wanted<'a>),
-}
-
-/// The reply that is wanted, or one that must not come.
-#[derive(Clone, Copy)]
-pub struct Wanted<'a> {
+pub struct Line<'a> {
+    pub number: u64,
+    pub call: &'a str,
+    /// The first word of the call, and those behind it.
+    pub word: &'a str,
+    pub rest: &'a str,
     pub reply: &'a str,
+    /// The reply must not come.
     pub must_differ: bool,
     /// How many bytes the call may ask for at most, if the line says so.
     pub within: Option<usize>,
@@ -28,95 +24,60 @@ fn split_within(call: &str) -> Option<(usize, &str)> {
     Some((number(most)?, call))
 }
 
-fn with_most<'a>(call: &'a str, reply: &'a str, must_differ: bool) -> Line<'a> {
+// A line without a reply wants `ok`.
+fn parse(number: u64, line: &str) -> Line<'_> {
+    let (call, reply) = line.split_once(" => ").unwrap_or((line, "ok"));
+    let differing = call.strip_prefix("differs ");
+    let call = differing.unwrap_or(call);
     let (within, call) = match split_within(call) {
         Some((most, call)) => (Some(most), call),
         None => (None, call),
     };
-    Line::Call(
+    let (word, rest) = split_word(call);
+    Line {
+        number,
         call,
-        Wanted {
-            reply,
-            must_differ,
-            within,
-        },
-    )
-}
-
-// A line without a reply wants `ok`.
-fn call_of<'a>(line: &'a str) -> Line<'a> {
-    let (call, reply) = match line.split_once(" => ") {
-        Some(parts) => parts,
-        None => (line, "ok"),
-    };
-    match call.strip_prefix("differs ") {
-        Some(call) => with_most(call, reply, true),
-        None => with_most(call, reply, false),
+        word,
+        rest,
+        reply,
+        must_differ: differing.is_some(),
+        within,
     }
 }
 
-/// The parts of a line. A line that comes from an `each` begins with a space.
-pub fn parse<'a>(line: &'a str) -> Line<'a> {
-    let line = line.strip_prefix(' ').unwrap_or(line);
-    if line.is_empty() || line.starts_with('#') {
-        return Line::Remark;
-    }
-    match line.strip_prefix("test ") {
-        Some(name) => Line::Test(name),
-        None => call_of(line),
-    }
-}
-
-/// The first word of a call, and the rest.
-pub fn split_call(call: &str) -> (&str, &str) {
-    match call.split_once(' ') {
-        Some(parts) => parts,
-        None => (call, ""),
-    }
-}
-
-/// The kind of object that a line begins, and the words behind that.
-pub fn begun_by<'a>(line: &'a str) -> Option<(Kind, &'a str)> {
-    match parse(line) {
-        Line::Call(call, _) => {
-            let (word, rest) = split_call(call);
-            match command_of(word)? {
-                Command::Begin(kind) => {
-                    let (is_of_values, words) = match split_call(rest) {
-                        ("of", values) => (true, values),
-                        _ => (false, rest),
-                    };
-                    Some((
-                        Kind {
-                            is_of_values,
-                            ..kind
-                        },
-                        words,
-                    ))
-                }
-                _ => None,
-            }
+/// Returns the lines of a text. One that begins with a space has the number of the `each` before it. Fails if memory is
+/// refused twice.
+pub fn parse_lines(alloc: Global, text: &str) -> Result<Vec<Line<'_>>, AllocError> {
+    let mut lines = Vec::new(alloc);
+    let mut number = 0u64;
+    for line in text.lines() {
+        let call = line.strip_prefix(' ');
+        if call.is_none() {
+            number = number.saturating_add(1);
         }
-        _ => None,
-    }
-}
-
-/// How many bytes the line says that its call may ask for.
-pub fn most_of(line: &str) -> Option<usize> {
-    match parse(line) {
-        Line::Call(_, wanted) => wanted.within,
-        _ => None,
-    }
-}
-
-/// Whether the object is dropped before this line is done.
-pub fn ends_object(line: &str) -> bool {
-    match parse(line) {
-        Line::Remark => false,
-        Line::Test(_) => true,
-        Line::Call(call, _) => {
-            let (word, _) = split_call(call);
-            matches!(command_of(word), Some(Command::Begin(_) | Command::Drop))
+        let call = call.unwrap_or(line);
+        let is_remark = call.is_empty() || call.starts_with('#');
+        if !is_remark && !memory::push(&mut lines, parse(number, call)) {
+            return Err(AllocError);
         }
+    }
+    Ok(lines)
+}
+
+impl Line<'_> {
+    /// Whether the line begins an object.
+    pub fn begins_object(&self) -> bool {
+        match self.word {
+            "bounded_set" | "set" | "bounded_queue" | "queue" | "join" | "try_join" => true,
+            "bounded_merge" | "merge" | "for_each" | "try_for_each" => true,
+            "buffered_unordered" | "buffered_ordered" => true,
+            "try_buffered_unordered" | "try_buffered_ordered" => true,
+            word => word.starts_with("in_flight"),
+        }
+    }
+
+    /// Whether the object is dropped before this line is done.
+    pub fn ends_object(&self) -> bool {
+        self.word == "test" || self.word == "drop" || self.begins_object()
     }
 }

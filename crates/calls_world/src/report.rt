@@ -1,5 +1,5 @@
 //! What is counted over the lines of a file, and which replies differ from those that stand there.
-use crate::line::Wanted;
+use crate::line::Line;
 use crate::text::Text;
 use std::alloc::Global;
 
@@ -24,7 +24,6 @@ fn is_right(wanted: &str, given: &str) -> bool {
 pub struct Report {
     file: Text,
     test: Text,
-    line: u64,
     tests: u64,
     calls: u64,
     differences: u64,
@@ -42,7 +41,6 @@ impl Report {
         Report {
             file: Text::new(alloc),
             test: Text::new(alloc),
-            line: 0,
             tests: 0,
             calls: 0,
             differences: 0,
@@ -57,13 +55,6 @@ impl Report {
         self.file.append(file);
     }
 
-    /// A line that begins with a space comes from the `each` before it, and has its number.
-    pub fn begin_line(&mut self, line: &str) {
-        if !line.starts_with(' ') {
-            self.line = self.line.saturating_add(1);
-        }
-    }
-
     pub fn begin_test(&mut self, name: &str) {
         self.tests = self.tests.saturating_add(1);
         self.test_is_over = false;
@@ -75,6 +66,20 @@ impl Report {
     pub fn count_again(&mut self, is_well: bool) {
         if is_well {
             self.refused = self.refused.saturating_add(1);
+        }
+    }
+
+    /// Makes the call, and makes it once more if it fails: it is counted if that is well.
+    pub fn twice<T, E: Drop, F: Fn() -> Result<T, E>>(&mut self, call: F) -> Result<T, E>
+        requires { F.IsAlwaysCallable call }
+    {
+        match call() {
+            Ok(made) => Ok(made),
+            Err(_) => {
+                let made = call();
+                self.count_again(made.is_ok());
+                made
+            }
         }
     }
 
@@ -94,37 +99,21 @@ impl Report {
         self.text.has_failed || self.first.has_failed || self.test.has_failed
     }
 
-    fn append_place(&mut self, call: &str) {
-        self.text.append(self.file.string.as_str());
-        self.text.append(":");
-        self.text.append_number(self.line);
-        self.text.append(": ");
-        self.text.append(self.test.string.as_str());
-        self.text.append(": ");
-        self.text.append(call);
-    }
-
-    fn append_difference(&mut self, call: &str, wanted: &Wanted<'_>, given: &str) {
-        self.append_place(call);
-        self.text.append(if wanted.must_differ {
-            "\n    want another than "
-        } else {
-            "\n    want "
-        });
-        self.text.append(wanted.reply);
-        self.text.append("\n    gave ");
-        self.text.append(given);
-        self.text.append("\n");
-    }
-
     /// Compares a reply with what was wanted, or with what must not come.
-    pub fn compare(&mut self, call: &str, wanted: &Wanted<'_>, given: &str) {
+    pub fn compare(&mut self, line: &Line<'_>, given: &str) {
         self.calls = self.calls.saturating_add(1);
-        if is_right(wanted.reply, given) != wanted.must_differ {
+        if is_right(line.reply, given) != line.must_differ {
             return;
         }
         self.test_is_over = true;
-        self.append_difference(call, wanted, given);
+        let (file, test) = (self.file.string.as_str(), self.test.string.as_str());
+        let want = if line.must_differ {
+            "want another than"
+        } else {
+            "want"
+        };
+        self.text.append(format_args!("{file}:{}: {test}: {}\n", line.number, line.call));
+        self.text.append(format_args!("    {want} {}\n    gave {given}\n", line.reply));
         if self.differences == 0 {
             self.first.append(self.text.string.as_str());
         }
@@ -133,13 +122,10 @@ impl Report {
 
     /// Appends the last line on the file.
     pub fn append_counts(&mut self) {
-        self.text.append(self.file.string.as_str());
-        self.text.append(": ");
-        self.text.append_number(self.tests);
-        self.text.append(" tests, ");
-        self.text.append_number(self.calls);
-        self.text.append(" calls, ");
-        self.text.append_number(self.differences);
-        self.text.append(" differ\n");
+        let (tests, calls, differences) = (self.tests, self.calls, self.differences);
+        let file = self.file.string.as_str();
+        self.text.append(format_args!(
+            "{file}: {tests} tests, {calls} calls, {differences} differ\n"
+        ));
     }
 }

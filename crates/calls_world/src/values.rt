@@ -1,19 +1,21 @@
-//! The futures and streams that objects hold, each after its script.
+//! The futures and streams that objects hold, each after its script, and the streams that adaptors draw from.
 ghost use Rattle.futures.specs.Task.{IsArmed, Keeps};
 ghost use Rattle.futures.specs.Poll.{OnPending};
 
 use crate::memory;
-use crate::script::{Role, Script};
+use crate::script::Script;
+use crate::session::first_of;
 use crate::step::Action;
-use crate::world::SharedWorld;
+use crate::world::{Event, Fault, SOURCE, SharedWorld};
 use futures::task::{Context, Poll};
 use futures::{Future, Stream};
 use futures_buffered_core::ready_shared::SharedWaker;
+use futures_buffered_unordered::fused::SizeHint;
 use futures_buffered_unordered::slot_future::SlotFuture;
 use futures_buffered_unordered::slot_stream::SlotStream;
 use std::marker::PhantomData;
 
-/// What a future gives. Its drop is seen if it has a handle on the world.
+/// What a future or a stream gives. Its drop is seen if it has a handle on the world.
 pub struct Output {
     number: u64,
     world: Option<SharedWorld>,
@@ -39,41 +41,30 @@ impl Output {
 
 /// What a value gives as a poll of it ends.
 pub trait Given: Drop {
-    const ROLE: Role;
-
     /// What it gives by this action. `None` if its kind of value has no such action.
     fn given_by(action: Action, world: &SharedWorld) -> Option<Self>;
-}
 
-impl Given for () {
-    const ROLE: Role = Role::Future;
-
-    fn given_by(action: Action, _world: &SharedWorld) -> Option<()> {
-        match action {
-            Action::Value(_) => Some(()),
-            _ => None,
-        }
+    /// Whether no poll may follow.
+    fn is_last(&self) -> bool {
+        true
     }
 }
 
-impl Given for u64 {
-    const ROLE: Role = Role::Future;
-
-    fn given_by(action: Action, _world: &SharedWorld) -> Option<u64> {
+impl Given for () {
+    fn given_by(action: Action, _world: &SharedWorld) -> Option<()> {
         match action {
-            Action::Value(number) => Some(number),
+            Action::Value(_) | Action::Cancel => Some(()),
             _ => None,
         }
     }
 }
 
 impl Given for Output {
-    const ROLE: Role = Role::Future;
-
     fn given_by(action: Action, world: &SharedWorld) -> Option<Output> {
         let (number, world) = match action {
             Action::Value(number) => (number, None),
             Action::Output(number) => (number, Some(world.share())),
+            Action::Cancel => (0, None),
             _ => return None,
         };
         Some(Output { number, world })
@@ -81,24 +72,25 @@ impl Given for Output {
 }
 
 impl<T: Given> Given for Result<T, u64> {
-    const ROLE: Role = Role::TryFuture;
-
     fn given_by(action: Action, world: &SharedWorld) -> Option<Result<T, u64>> {
         match action {
             Action::Error(error) => Some(Err(error)),
+            Action::Cancel => Some(Err(0)),
             action => T::given_by(action, world).map(Ok),
         }
     }
 }
 
 impl<T: Given> Given for Option<T> {
-    const ROLE: Role = Role::Stream;
-
     fn given_by(action: Action, world: &SharedWorld) -> Option<Option<T>> {
         match action {
             Action::End => Some(None),
             action => T::given_by(action, world).map(Some),
         }
+    }
+
+    fn is_last(&self) -> bool {
+        self.is_none()
     }
 }
 
@@ -122,7 +114,17 @@ pub type UnitFuture = Scripted<()>;
 pub type TryUnitFuture = Scripted<Result<(), u64>>;
 
 /// A stream of numbers, for a merge.
-pub type NumberStream = Scripted<Option<u64>>;
+pub type NumberStream = Scripted<Option<Output>>;
+
+// A source gives the values with the numbers of its items.
+impl<T: Given> Given for Scripted<T> {
+    fn given_by(action: Action, world: &SharedWorld) -> Option<Scripted<T>> {
+        match action {
+            Action::Value(id) => Some(Scripted::new(world, id as usize)),
+            _ => None,
+        }
+    }
+}
 
 /// What is made after the script of its number.
 pub trait Made: Drop {
@@ -133,37 +135,51 @@ pub trait Made: Drop {
 impl<T: Given> Made for Scripted<T> {
     fn new(world: &SharedWorld, id: usize) -> Scripted<T> {
         Scripted {
-            script: Script::new(world, id, T::ROLE),
+            script: Script::new(world, id),
             given: PhantomData,
         }
     }
 }
 
+/// A value for the first of these numbers.
+pub fn new_value<V: Made>(world: &SharedWorld, ids: &[usize]) -> V {
+    V::new(world, first_of(ids))
+}
+
+/// A value for each of these numbers.
+pub fn new_values<V: Made>(world: &SharedWorld, ids: &[usize]) -> Vec<V> {
+    let mut values = Vec::new(world.alloc);
+    for id in ids {
+        let had_memory = memory::push(&mut values, V::new(world, *id));
+        world.need(had_memory);
+    }
+    values
+}
+
 impl<T: Given> Scripted<T> {
     /// What the closure of a for-each does with its item: the call is seen.
     pub fn called(self, world: &SharedWorld) -> Scripted<T> {
-        self.script.see_call(world);
+        world.see(Event::Called(self.script.id));
         self
     }
 
-    /// How many items and errors are left.
-    pub fn items_left(&self) -> usize {
-        self.script.items_left()
+    // What it gives by this action, which its kind of value must have.
+    fn give(&mut self, action: Action) -> Option<T> {
+        let given = T::given_by(action, &self.script.world);
+        match &given {
+            Some(value) => self.script.is_over = value.is_last(),
+            None => self.script.world.fail(Fault::Misuse),
+        }
+        given
     }
 
     /// One poll in a slot.
     pub fn poll_in_slot(&mut self, waker: &SharedWaker) -> Poll<T> {
-        let action = self.script.poll_in_slot(waker);
-        if matches!(action, Action::Pending) {
-            return Poll::Pending;
-        }
-        match T::given_by(action, &self.script.world) {
-            Some(given) => Poll::Ready(given),
-            None => {
-                self.script.world.misuse();
-                Poll::Pending
-            }
-        }
+        let given = match self.script.poll_in_slot(waker) {
+            Action::Pending => None,
+            action => self.give(action),
+        };
+        given.map_or(Poll::Pending, Poll::Ready)
     }
 
     /// One poll in a task.
@@ -173,9 +189,9 @@ impl<T: Given> Scripted<T> {
     {
         match self.script.poll_in_task(cx) {
             Poll::Pending => Poll::Pending,
-            Poll::Ready(action) => match T::given_by(action, &self.script.world) {
+            Poll::Ready(action) => match self.give(action) {
                 Some(given) => Poll::Ready(given),
-                None => self.script.misuse(cx),
+                None => cx.yield_now(),
             },
         }
     }
@@ -213,23 +229,63 @@ impl<T: Given> Stream for Scripted<Option<T>> {
     }
 }
 
-// A source gives the values with the numbers of its items.
-impl<T: Given> Given for Scripted<T> {
-    const ROLE: Role = Role::Future;
+/// What an adaptor draws from. It is polled with the task's context.
+#[derive(Drop)]
+pub struct ItemSource<T> {
+    items: Scripted<Option<T>>,
+    is_hint_fixed: bool,
+    hint: (usize, Option<usize>),
+}
 
-    fn given_by(action: Action, world: &SharedWorld) -> Option<Scripted<T>> {
-        match action {
-            Action::Value(id) => Some(Scripted::new(world, id as usize)),
-            _ => None,
+/// A stream of futures.
+pub type Source = ItemSource<NumberFuture>;
+
+/// A stream of futures and errors.
+pub type TrySource = ItemSource<Result<TryFuture, u64>>;
+
+/// A stream of what a for-each runs.
+pub type UnitSource = ItemSource<UnitFuture>;
+
+/// A stream of what a try-for-each runs, and of errors.
+pub type TryUnitSource = ItemSource<Result<TryUnitFuture, u64>>;
+
+impl<T: Given> ItemSource<T> {
+    /// Without a fixed hint it says how many items and errors are left.
+    pub fn new(world: &SharedWorld, fixed: Option<(usize, Option<usize>)>) -> ItemSource<T> {
+        let items: Scripted<Option<T>> = Scripted::new(world, SOURCE);
+        let count = items.script.items();
+        ItemSource {
+            items,
+            is_hint_fixed: fixed.is_some(),
+            hint: fixed.unwrap_or((count, Some(count))),
+        }
+    }
+
+    // One item or error fewer is left.
+    fn count_item(&mut self) {
+        if !self.is_hint_fixed {
+            let left = self.hint.0.saturating_sub(1);
+            self.hint = (left, Some(left));
         }
     }
 }
 
-/// A value for each of these numbers.
-pub fn new_values<V: Made>(world: &SharedWorld, ids: &[usize]) -> Vec<V> {
-    let mut values = Vec::new(world.alloc);
-    for id in ids {
-        world.need(memory::push(&mut values, V::new(world, *id)));
+impl<T: Given> Stream for ItemSource<T> {
+    type Item = T;
+
+    fn poll_next(&mut self, cx: &mut Context<'_>) -> Poll<Option<T>> {
+        let polled = self.items.poll_in_task(cx);
+        if let Poll::Ready(Some(_)) = &polled {
+            self.count_item();
+        }
+        polled
     }
-    values
+}
+
+impl<T: Given> SizeHint for ItemSource<T> {
+    ghost items_left = { λ s. s.hint };
+
+    fn size_hint(&self) -> (usize, Option<usize>) {
+        self.hint
+    }
 }

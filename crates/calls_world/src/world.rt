@@ -1,24 +1,92 @@
 //! What values and session share: the steps of each value, the wakers and senders that were kept, and what one call
 //! did.
-use crate::effects::{Event, append_dropped, append_events};
-use crate::line::split_call;
 use crate::memory;
-use crate::numbers::span;
-use crate::step::{Step, push_steps};
+use crate::step::Step;
 use crate::text::Text;
+use crate::words::push_words;
 use futures::task::Waker;
 use futures_buffered_core::ready_shared::SharedWaker;
 use futures_buffered_held::oneshot::{Receiver, Sender, channel};
 use futures_buffered_unordered::slot_future::SlotWaker;
 use std::alloc::Global;
 use std::cell::{RefCell, RefMut};
+use std::ops::Range;
 use std::rc::Rc;
 
 /// The number of the source, whose place is the first.
 pub const SOURCE: usize = 0;
 
+/// What goes wrong.
+#[derive(Clone, Copy)]
+pub enum Fault {
+    /// A value was named that there is not, or did what its kind does not.
+    Misuse,
+    /// A request for memory was refused twice.
+    Memory,
+}
+
+/// What a poll did with one value.
+#[derive(Clone, Copy, PartialEq, Eq)]
+pub enum Event {
+    Polled(usize),
+    PolledAfterEnd(usize),
+    /// The closure of a for-each was called with it.
+    Called(usize),
+}
+
+// Whether the value behind the one before is polled, or the same is done once more. A value that is polled twice stands
+// twice.
+fn is_one_run(event: &Event, next: &Event) -> bool {
+    match (*event, *next) {
+        (Event::Polled(id), Event::Polled(next)) if id != SOURCE => id.checked_add(1) == Some(next),
+        (event, next) => event == next,
+    }
+}
+
+fn append_run(text: &mut Text, event: Event, times: usize) {
+    match event {
+        Event::Polled(SOURCE) => text.append_word("source"),
+        Event::Polled(id) => return text.append_run(id as u64, times),
+        Event::PolledAfterEnd(SOURCE) => text.append_word("!source"),
+        Event::PolledAfterEnd(id) => text.append_word(format_args!("!{id}")),
+        Event::Called(id) => text.append_word(format_args!("call:{id}")),
+    }
+    if times > 1 {
+        text.append(format_args!("*{times}"));
+    }
+}
+
+// Appends what was done, in order.
+fn append_events(text: &mut Text, events: &[Event]) {
+    if events.is_empty() {
+        text.append_word("-");
+    }
+    for run in events.chunk_by(is_one_run) {
+        if let Some(event) = run.first() {
+            append_run(text, *event, run.len());
+        }
+    }
+}
+
+// Appends what was dropped: the numbers of values, which stand in rising order, the source behind them, and the
+// outputs.
+fn append_dropped(text: &mut Text, values: &[u64], outputs: &[u64]) {
+    match values.split_first() {
+        None if outputs.is_empty() => text.append_word("-"),
+        None => {}
+        Some((0, rest)) => {
+            text.append_numbers(rest);
+            text.append_word("source");
+        }
+        Some(_) => text.append_numbers(values),
+    }
+    for output in outputs {
+        text.append_word(format_args!("={output}"));
+    }
+}
+
 // What is kept for the values with one number.
-#[derive(Drop)]
+#[derive(Default, Drop)]
 struct Place {
     steps: Option<Rc<Vec<Step>>>,
     waker: Option<SharedWaker>,
@@ -39,64 +107,41 @@ pub struct World {
     living: usize,
     // Both ends of a one-shot were made, which takes memory, since effects were forgotten last.
     has_made_ends: bool,
-    // A value was named that there is not, or gave what its kind does not.
-    is_misused: bool,
-    // A request for memory was refused twice.
-    is_out_of_memory: bool,
-}
-
-// Has the table grow up to the place of that number. Whether there was memory for it.
-fn make_place(places: &mut Vec<Place>, id: usize) -> bool {
-    for _ in places.len()..id.saturating_add(1) {
-        let place = Place {
-            steps: None,
-            waker: None,
-            keeps_task: false,
-            task_waker: None,
-            sender: None,
-        };
-        if !memory::push(places, place) {
-            return false;
-        }
-    }
-    true
+    // What went wrong.
+    fault: Option<Fault>,
 }
 
 impl World {
-    fn new(alloc: Global) -> World {
-        World {
-            places: Vec::new(alloc),
-            events: memory::list(alloc),
-            dropped: memory::list(alloc),
-            dropped_outputs: memory::list(alloc),
-            living: 0,
-            has_made_ends: false,
-            is_misused: false,
-            is_out_of_memory: false,
-        }
-    }
-
     fn need(&mut self, had_memory: bool) {
         if !had_memory {
-            self.is_out_of_memory = true;
+            self.fault = Some(Fault::Memory);
         }
     }
 
-    fn define(&mut self, id: usize, steps: Option<Rc<Vec<Step>>>) {
-        let is_well = make_place(&mut self.places, id) && steps.is_some();
+    // Has the table grow up to that place. Whether there was memory for it.
+    fn make_places(&mut self, end: usize) -> bool {
+        for _ in self.places.len()..end {
+            if !memory::push(&mut self.places, Place::default()) {
+                return false;
+            }
+        }
+        true
+    }
+
+    fn define(&mut self, ids: Range<usize>, steps: &Option<Rc<Vec<Step>>>) {
+        let is_well = self.make_places(ids.end) && steps.is_some();
         self.need(is_well);
-        if let Some(place) = self.places.get_mut(id) {
-            place.steps = steps;
+        for id in ids {
+            if let Some(place) = self.places.get_mut(id) {
+                place.steps = steps.as_ref().and_then(|steps| steps.clone().ok());
+            }
         }
     }
 
     // The steps of a value of which there is one more now.
     fn make(&mut self, id: usize) -> Option<Rc<Vec<Step>>> {
         self.living = self.living.saturating_add(1);
-        match self.places.get(id) {
-            Some(place) => place.steps.as_ref()?.clone().ok(),
-            None => None,
-        }
+        self.places.get(id)?.steps.as_ref()?.clone().ok()
     }
 
     /// The place in which this value keeps the waker of the task that polls it.
@@ -106,7 +151,6 @@ impl World {
         Some(&mut place.task_waker)
     }
 
-    // Wakes the waker that this value kept last. Whether it ever kept one.
     fn wake(&mut self, id: usize) -> bool {
         let Some(place) = self.places.get_mut(id) else {
             return false;
@@ -119,13 +163,6 @@ impl World {
             waker.wake();
         }
         place.keeps_task
-    }
-
-    fn forget_effects(&mut self) {
-        self.events.clear();
-        self.dropped.clear();
-        self.dropped_outputs.clear();
-        self.has_made_ends = false;
     }
 
     fn has_dropped(&self, ids: &[usize]) -> bool {
@@ -149,8 +186,19 @@ pub struct SharedWorld {
 
 impl SharedWorld {
     pub fn new(alloc: Global) -> SharedWorld {
-        let world = memory::share(alloc, RefCell::new(World::new(alloc))).ok();
-        SharedWorld { alloc, world }
+        let world = World {
+            places: Vec::new(alloc),
+            events: memory::list(alloc),
+            dropped: memory::list(alloc),
+            dropped_outputs: memory::list(alloc),
+            living: 0,
+            has_made_ends: false,
+            fault: None,
+        };
+        SharedWorld {
+            alloc,
+            world: memory::share(alloc, RefCell::new(world)),
+        }
     }
 
     /// The world itself.
@@ -160,12 +208,9 @@ impl SharedWorld {
 
     /// Another handle. Takes no memory.
     pub fn share(&self) -> SharedWorld {
-        let world = match &self.world {
-            Some(world) => world.clone().ok(),
-            None => None,
-        };
+        let world = self.world.as_ref().and_then(|world| world.clone().ok());
         if world.is_none() {
-            self.misuse();
+            self.fail(Fault::Misuse);
         }
         SharedWorld {
             alloc: self.alloc,
@@ -175,61 +220,48 @@ impl SharedWorld {
 
     /// All is as at the start. No value is left.
     pub fn reset(&self) {
+        self.forget_effects();
         if let Some(mut world) = self.open() {
             world.places.clear();
-            world.forget_effects();
             world.living = 0;
-            world.is_misused = false;
-            world.is_out_of_memory = false;
+            world.fault = None;
         }
     }
 
-    /// Something was wrong, which the next reply says.
-    pub fn misuse(&self) {
+    /// This went wrong, which the replies of the test say from now on.
+    pub fn fail(&self, fault: Fault) {
         if let Some(mut world) = self.open() {
-            world.is_misused = true;
+            world.fault = Some(fault);
         }
     }
 
-    /// Memory was refused twice, if so.
+    /// What went wrong last in this test.
+    pub fn fault(&self) -> Option<Fault> {
+        self.open().map_or(Some(Fault::Misuse), |world| world.fault)
+    }
+
+    /// Memory was refused twice, unless there was some.
     pub fn need(&self, had_memory: bool) {
-        if let Some(mut world) = self.open() {
-            world.need(had_memory);
-        }
-    }
-
-    /// Whether something was wrong, and whether memory was refused twice.
-    pub fn faults(&self) -> (bool, bool) {
-        match self.open() {
-            Some(world) => (world.is_misused, world.is_out_of_memory),
-            None => (true, true),
+        if !had_memory {
+            self.fail(Fault::Memory);
         }
     }
 
     /// Whether both ends of a one-shot were made since effects were forgotten last.
     pub fn has_made_ends(&self) -> bool {
-        match self.open() {
-            Some(world) => world.has_made_ends,
-            None => false,
-        }
+        self.open().is_some_and(|world| world.has_made_ends)
     }
 
     /// Whether no value is held.
     pub fn is_empty(&self) -> bool {
-        match self.open() {
-            Some(world) => world.living == 0,
-            None => false,
-        }
+        self.open().is_some_and(|world| world.living == 0)
     }
 
     /// A value with this number is made: its steps.
     pub fn make(&self, id: usize) -> Option<Rc<Vec<Step>>> {
-        let steps = match self.open() {
-            Some(mut world) => world.make(id),
-            None => None,
-        };
+        let steps = self.open().and_then(|mut world| world.make(id));
         if steps.is_none() {
-            self.misuse();
+            self.fail(Fault::Misuse);
         }
         steps
     }
@@ -258,10 +290,7 @@ impl SharedWorld {
 
     /// A receiver for this value, whose sender stays here.
     pub fn new_receiver(&self, id: usize) -> Option<Receiver<u64>> {
-        let made = match channel(self.alloc) {
-            Ok(ends) => Ok(ends),
-            Err(_) => channel(self.alloc),
-        };
+        let made = memory::twice(|| channel(self.alloc));
         self.need(made.is_ok());
         let (sender, receiver) = made.ok()?;
         let mut world = self.open()?;
@@ -281,7 +310,7 @@ impl SharedWorld {
     pub fn keep(&self, id: usize, waker: &SharedWaker) {
         let kept = waker.try_clone().ok();
         if kept.is_none() {
-            self.misuse();
+            self.fail(Fault::Misuse);
         }
         self.put_waker(id, kept);
     }
@@ -297,25 +326,22 @@ impl SharedWorld {
 
     /// Wakes the waker that the value kept last. Whether it ever kept one.
     pub fn wake(&self, id: usize) -> bool {
-        match self.open() {
-            Some(mut world) => world.wake(id),
-            None => false,
-        }
+        self.open().is_some_and(|mut world| world.wake(id))
     }
 
     /// Forgets what was done up to here.
     pub fn forget_effects(&self) {
         if let Some(mut world) = self.open() {
-            world.forget_effects();
+            world.events.clear();
+            world.dropped.clear();
+            world.dropped_outputs.clear();
+            world.has_made_ends = false;
         }
     }
 
     /// Whether the values with these numbers were dropped since effects were forgotten last, and no other.
     pub fn has_dropped(&self, ids: &[usize]) -> bool {
-        match self.open() {
-            Some(world) => world.has_dropped(ids),
-            None => false,
-        }
+        self.open().is_some_and(|world| world.has_dropped(ids))
     }
 
     pub fn append_events(&self, text: &mut Text) {
@@ -337,28 +363,14 @@ impl SharedWorld {
         }
     }
 
-    /// Has the value with this number act by these steps. Whether each word is one.
-    pub fn define(&self, id: usize, words: &str) -> bool {
+    /// Has the values with these numbers act by these steps. `None` if a word is no step.
+    pub fn define(&self, ids: Range<usize>, words: &str) -> Option<()> {
         let mut steps = Vec::new(self.alloc);
-        let is_well = push_steps(&mut steps, words, id);
-        let steps = memory::share(self.alloc, steps).ok();
+        let parsed = push_words(&mut steps, words, " ");
+        let steps = memory::share(self.alloc, steps);
         if let Some(mut world) = self.open() {
-            world.define(id, steps);
+            world.define(ids, &steps);
         }
-        is_well
-    }
-
-    /// The same of each value of a span, by the words of a line.
-    pub fn define_named(&self, rest: &str) -> bool {
-        let (ids, words) = split_call(rest);
-        let Some((first, last)) = span(ids) else {
-            return false;
-        };
-        for id in first..last {
-            if !self.define(id, words) {
-                return false;
-            }
-        }
-        self.define(last, words)
+        parsed
     }
 }
