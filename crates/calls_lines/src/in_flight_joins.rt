@@ -92,7 +92,7 @@ impl Subject<AllTypes> for KitMerge {
         match word {
             "push" => {
                 let pushed = self.merge.try_push(new_value(world, ids));
-                of_full(pushed, self.merge.is_full(), Reply::Refused)
+                of_full(pushed.map(|_key| ()), self.merge.is_full(), Reply::Refused)
             }
             _ => ask!(self.merge, word, text, Done clear, Number len, Is is_empty,
                 Number capacity, Is is_full),

@@ -21,15 +21,13 @@ pub mod try_buffered;
 
 pub use buffered::BufferedStreamExt;
 pub use futures_buffered_in_flight::in_flight::FuturesUnorderedBy;
+pub use futures_buffered_in_flight::in_flight_merge::{merge, merge_unbounded};
 pub use futures_buffered_in_flight::{
-    Came, FuturesUnordered, FuturesUnorderedBounded, Kept, Key, Waiting,
+    Came, FuturesUnordered, FuturesUnorderedBounded, Kept, Key, MergeBounded, MergeUnbounded,
+    Waiting,
 };
 pub use futures_buffered_joins::in_flight_join::{
     JoinAll, JoinBy, TryJoinAll, join_all, outputs_come_by_place, try_join_all,
-};
-pub use futures_buffered_merges::WaitingMerge;
-pub use futures_buffered_merges::in_flight_merge::{
-    MergeBounded, MergeUnbounded, merge, merge_unbounded,
 };
 pub use iter_ext::IterExt;
 pub use try_buffered::BufferedTryStreamExt;
@@ -43,6 +41,9 @@ pub type FuturesOrderedBounded<F> = futures_buffered_in_flight::FuturesOrderedBo
 
 /// Futures of `futures`, any number of them, whose outputs come in the order of the pushes.
 pub type FuturesOrdered<F> = futures_buffered_in_flight::FuturesOrdered<F, <F as Future>::Output>;
+
+/// A merge of streams of `futures` while a task waits for its next item.
+pub type WaitingMerge<St> = Waiting<MergeBounded<St>>;
 
 /// Futures of `futures` of a stream, at most as many at a time as the set has slots, whose outputs come as they finish.
 pub type BufferUnordered<St> = Buffer<St, FuturesUnorderedBounded<<St as Stream>::Item>>;

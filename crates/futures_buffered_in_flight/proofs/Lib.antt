@@ -2,4 +2,5 @@ pub mod InFlightLemmas
 pub mod FromIterLemmas
 pub mod InFlightQueueLemmas
 pub mod InFlightOrderedLemmas
+pub mod InFlightMergeLemmas
 pub mod WaitingLemmas

@@ -1,15 +1,19 @@
--- What comes of a set or an ordered queue that a task waits for.
-use Rattle.std.proofs.Common.{Bool, ℕ, ◌<◌, Option, sym, subst, arith}
+-- What comes of a set, an ordered queue or a merge that a task waits for.
+use Rattle.std.proofs.Common.{Bool, ℕ, [], ◌≡◌, ◌<◌, ◌⊎◌, inl, inr, Option, Some, None, sym, subst, ◌∙◌, arith}
+use Rattle.std.specs.Prelude.{MatchOption}
+use Rattle.futures.specs.declared.task.Poll.{Poll}
 use Rattle.futures.specs.declared.task.Poll.TheVariants.{Ready, Pending}
 use Rattle.futures.specs.declared.task.context.Context.{Context}
 use Rattle.futures_buffered_core.specs.SlotMap.{Slots, held_count}
 use Rattle.futures_buffered_ordered.specs.OrderedEntries.{Ordered}
 use Rattle.futures_buffered_in_flight.specs.InFlight.{FutureOf, Flights, CameInFlight, PollsInFlight}
+use Rattle.futures_buffered_in_flight.specs.InFlightMerge.{AnswersNoMore, AnyAnswers, CameOfMerge, Merged, OneStreamEndsAtMost, PollsMerge, PollsUnkeyed, StreamOf, streams_held, without_key}
 use Rattle.futures_buffered_in_flight.specs.InFlightOrdered.{AnswersInTurn, CameInTurn}
 use Rattle.futures_buffered_in_flight.specs.InFlightTurns.{Starts}
 use Rattle.futures_buffered_in_flight.specs.declared.in_flight.Came.{Came}
 use Rattle.futures_buffered_in_flight.specs.declared.in_flight.Place.{Place}
 use Rattle.futures_buffered_in_flight.proofs.InFlightLemmas.{polls_from}
+use Rattle.futures_buffered_in_flight.proofs.InFlightMergeLemmas.{narrows}
 use Rattle.futures_buffered_in_flight.proofs.InFlightOrderedLemmas.{answers_in_turn}
 
 module _ {F A T : Type 0} (future : FutureOf F A) where
@@ -33,3 +37,51 @@ module _ {F A : Type 0} (future : FutureOf F A) where
   came_in_turn_later old mid new came cx left poll c =
       let stream = answers_in_turn future old mid Pending cx left poll in
       grind arith
+
+module _ {St A : Type 0} (stream : StreamOf St A) where
+  abbrev Ended : Merged St → Merged St → Type 0
+  Ended old new = (streams_held new ≡ streams_held old) ⊎ ((streams_held new < streams_held old) × AnyAnswers stream old.set None)
+
+  one_ended : (old new : Merged St) → OneStreamEndsAtMost stream old.set new.set → Ended old new
+  one_ended old new (inl same) = inl same
+  one_ended old new (inr one) = inr (omega (arith, one.0), one.1)
+
+  ended_on : (old mid new : Merged St) → AnswersNoMore stream old.set mid.set → Ended old mid → Ended mid new → Ended old new
+  ended_on old mid new narrows (inl a) (inl b) = inl (b ∙ a)
+  ended_on old mid new narrows (inl a) (inr b) = inr (omega (arith, a, b.0), narrows None b.1)
+  ended_on old mid new narrows (inr a) (inl b) = inr (omega (arith, b, a.0), a.1)
+  ended_on old mid new narrows (inr a) (inr b) = inr (omega (arith, a.0, b.0), a.1)
+
+  came_as : (old new : Merged St) (keyed : Poll (Option (Came A (Unit {0})))) (item : Option A) (cx left : Context) → Ready item ≡ without_key keyed → PollsMerge stream old.set keyed new.set cx left → new.limit ≡ old.limit → CameOfMerge stream old item new
+  came_as old new Pending item cx left is p limit = absurd (cc)
+  came_as old new (Ready None) None cx left is p limit = record { gave = p.gave.0; ended = one_ended old new p.ended; narrows = narrows stream old.set new.set (Ready None) p.gave; same_limit = limit; again = p.again }
+  came_as old new (Ready (Some came)) (Some x) cx left is p limit =
+      let same : x ≡ came.output = cc in
+      record {
+        gave = (omega (arith, p.gave.same_count.0, p.gave.same_count.1), subst (λ x. AnyAnswers stream old.set (Some x)) (sym same) (came.key, [], p.gave.gave));
+        ended = one_ended old new p.ended;
+        narrows = narrows stream old.set new.set (Ready (Some came)) p.gave;
+        same_limit = limit;
+        again = p.again;
+      }
+  came_as old new (Ready None) (Some x) cx left is p limit = absurd (cc)
+  came_as old new (Ready (Some came)) None cx left is p limit = absurd (cc)
+
+  pub came_of_merge_at_once : (old new : Merged St) (item : Option A) (cx left : Context) → PollsUnkeyed stream old (Ready item) new cx left → CameOfMerge stream old item new
+  came_of_merge_at_once old new item cx left p = came_as old new p.keyed item cx left p.same p.polls p.same_limit
+
+  -- what may come after a pending poll might come before
+  pub came_of_merge_later : (old mid new : Merged St) (item : Option A) (cx left : Context) → PollsUnkeyed stream old Pending mid cx left → CameOfMerge stream mid item new → CameOfMerge stream old item new
+  came_of_merge_later old mid new item cx left p c =
+      let before = narrows stream old.set mid.set p.keyed p.polls.gave in
+      record {
+        gave = gave item c.gave;
+        ended = ended_on old mid new before (one_ended old mid p.polls.ended) c.ended;
+        narrows = λ answer h. before answer (c.narrows answer h);
+        same_limit = c.same_limit ∙ p.same_limit;
+        again = c.again;
+      }
+    where
+      gave : (item : Option A) → MatchOption item (streams_held new ≡ 0) (λ x. (0 < streams_held new) × AnyAnswers stream mid.set (Some x)) → MatchOption item (streams_held new ≡ 0) (λ x. (0 < streams_held new) × AnyAnswers stream old.set (Some x))
+      gave None g = g
+      gave (Some x) g = (g.0, narrows stream old.set mid.set p.keyed p.polls.gave (Some x) g.1)

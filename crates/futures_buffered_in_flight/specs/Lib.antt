@@ -2,3 +2,4 @@ pub mod InFlight
 pub mod InFlightTurns
 pub mod InFlightQueue
 pub mod InFlightOrdered
+pub mod InFlightMerge

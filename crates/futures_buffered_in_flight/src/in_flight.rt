@@ -216,10 +216,11 @@ impl<F: Drop, T: Drop, K> FuturesUnorderedBy<F, T, K> {
 }
 
 impl<F: Future<Output: Drop>, T: Drop, K> FuturesUnorderedBy<F, T, K> {
-    // Makes a set of n free slots.
+    // Makes a set of n free slots, into which no push was made.
     #[tactic(auto, using(crate::proofs::InFlightLemmas::none_can_poll))]
     pub(crate) fn with_slots(alloc: Global, n: usize) -> Result<Self, NewFault>
         ensures made { MakesSlots n (IsNewInFlight n) result }
+        ensures first { IfOk result (λ set. set.next ≡ 0) }
         ensures can_poll { IfOk result (CanPollAll F.Future) }
     {
         let slots = PinSlotMap::new(alloc, n)?;

@@ -108,7 +108,7 @@ impl<F: Future<Output: Drop>, T: Drop, K> FuturesUnorderedBy<F, T, K> {
 
     // Drops the cancelled futures that are left in a set that holds no future.
     #[tactic(auto, using(crate::proofs::InFlightLemmas::none_can_poll))]
-    fn end(&mut self)
+    pub(crate) fn end(&mut self)
         requires held { CanPollAll F.Future self.old }
         requires none { held_count self.old.slots ≡ 0 }
         ensures none { (self.new.cancelled ≡ 0) × (self.new.waiting ≡ []) }

@@ -21,6 +21,7 @@ mod bells;
 mod from_iter;
 pub mod in_flight;
 pub mod in_flight_growing;
+pub mod in_flight_merge;
 pub mod in_flight_ordered;
 mod in_flight_ordered_stream;
 mod in_flight_polls;
@@ -32,6 +33,7 @@ pub mod waiting;
 
 pub use in_flight::{Came, FuturesUnorderedBounded};
 pub use in_flight_growing::FuturesUnordered;
+pub use in_flight_merge::{MergeBounded, MergeUnbounded};
 pub use in_flight_ordered::{FuturesOrdered, FuturesOrderedBounded};
 pub use kept::Kept;
 pub use run::Key;

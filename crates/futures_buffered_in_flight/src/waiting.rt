@@ -1,13 +1,15 @@
 //! Sets and queues in flight, while a task waits for their next output.
 ghost use Rattle.std.specs.Prelude.{◌≡◌, Some, IfOk, IsSomeAnd};
 ghost use Rattle.futures_buffered_in_flight.specs.InFlight.{CameInFlight, CanPollAll, FlightsWaitAt};
+ghost use Rattle.futures_buffered_in_flight.specs.InFlightMerge.{CameOfMerge, CanPollStreams, MergedWaitsAt};
 ghost use Rattle.futures_buffered_in_flight.specs.InFlightOrdered.{CameInTurn, CanPollOrdered, OrderedWaitsAt};
 
 use crate::in_flight::{Came, FuturesUnorderedBy, Kind};
+use crate::in_flight_merge::MergeBounded;
 use crate::in_flight_ordered::FuturesOrderedBy;
-use futures::Future;
 use futures::executor::block_on;
 use futures::task::{Context, Poll};
+use futures::{Future, Stream};
 use std::alloc::AllocGlobal;
 use std::io;
 use std::random::RandomSource;
@@ -108,6 +110,50 @@ impl<F: Future<Output = A>, A: Drop, K: Kind> FuturesOrderedBy<F, A, K> {
         R: Wait + RandomSource + AllocGlobal,
         requires { CanPollOrdered F.Future self }
         ensures { IfOk result (λ given. CameInTurn F.Future self given.0 given.1) }
+    {
+        block_on(rt, self.into_next())
+    }
+}
+
+impl<St: Stream<Item: Drop>> Future for Waiting<MergeBounded<St>> {
+    type Output = (Option<St::Item>, MergeBounded<St>);
+
+    // A merge that was returned is not there to be polled.
+    ghost can_poll = { λ waiting. IsSomeAnd waiting.held (CanPollStreams St.Stream) };
+
+    ghost needs = { λ waiting place. IsSomeAnd waiting.held (λ merge. MergedWaitsAt merge place) };
+
+    ghost gives = { λ waiting given. IsSomeAnd waiting.held
+        (λ merge. CameOfMerge St.Stream merge given.0 given.1) };
+
+    #[tactic(auto, using(crate::proofs::WaitingLemmas::came_of_merge_at_once, crate::proofs::WaitingLemmas::came_of_merge_later))]
+    fn poll(&mut self, cx: &mut Context<'_>) -> Poll<Self::Output> {
+        let Some(merge) = &mut self.held else {
+            unreachable!()
+        };
+        let Poll::Ready(came) = merge.poll_next(cx) else {
+            return Poll::Pending;
+        };
+        Poll::Ready((came, self.held.take().unwrap()))
+    }
+}
+
+impl<St: Stream<Item: Drop>> MergeBounded<St> {
+    /// Returns a future of the next item, or of `None` if no stream is held any more. That future returns the merge
+    /// too.
+    pub fn into_next(self) -> Waiting<Self>
+        ensures { result.held ≡ Some self }
+    {
+        Waiting { held: Some(self) }
+    }
+
+    /// Blocks the thread until the next item or `None` comes, and returns it with the merge. If the thread cannot wait,
+    /// drops the merge and returns an error.
+    pub fn wait<R>(self, rt: &R) -> io::Result<(Option<St::Item>, Self)>
+    where
+        R: Wait + RandomSource + AllocGlobal,
+        requires { CanPollStreams St.Stream self }
+        ensures { IfOk result (λ given. CameOfMerge St.Stream self given.0 given.1) }
     {
         block_on(rt, self.into_next())
     }

@@ -1,11 +1,13 @@
 //! What lines of calls cannot say of a set of the kit's futures: what its users hold of it, what `extend` draws, and
 //! whom a future that waits for the next output wakes.
+ghost use Rattle.futures_buffered.specs.InFlightMerge.{CanPollStreams};
+
 use crate::same::assert_same;
-use futures::channel::mpsc::unbounded;
+use futures::channel::mpsc::{UnboundedReceiver, UnboundedSender, unbounded};
 use futures::channel::oneshot::{Canceled, Receiver, Sender, channel};
 use futures::task::{Context, Poll};
 use futures::test::MockTask;
-use futures::{Future, StreamExt};
+use futures::{Future, Stream, StreamExt};
 use futures_buffered::in_flight::MergeBounded;
 use futures_buffered_in_flight::{FuturesOrderedBounded, FuturesUnorderedBounded, Kept, Key};
 use std::alloc::{AllocGlobal, Global};
@@ -136,6 +138,51 @@ fn extend_in_flight_stops_at_the_first_refusal(rt: HostRuntime) -> Result<(), Fa
     assert_same(&rt, queue_extended(rt.alloc())?, (true, 2, 2));
     assert_same(&rt, merge_extended(rt.alloc())?, (true, 2, 2));
     Ok(())
+}
+
+// The next item of the merge and the key of its stream, after this number was sent.
+fn next_keyed(
+    cx: &mut Context<'_>,
+    merge: &mut MergeBounded<UnboundedReceiver<u64>>,
+    sender: &UnboundedSender<u64>,
+    number: u64,
+) -> Option<(u64, Key)>
+    requires { CanPollStreams ⟦<UnboundedReceiver<u64> as Stream>⟧ merge.old }
+    ensures { CanPollStreams ⟦<UnboundedReceiver<u64> as Stream>⟧ merge.new }
+{
+    let _ = sender.unbounded_send(number);
+    match merge.poll_next_keyed(cx) {
+        Poll::Ready(Some(came)) => Some((came.output, came.key)),
+        _ => None,
+    }
+}
+
+fn merged_by_key(rt: &(impl AllocGlobal + Abort), cx: &mut Context<'_>) -> Result<(), Fail> {
+    let (first, stream) = unbounded::<u64>(rt.alloc())?;
+    let (second, other) = unbounded::<u64>(rt.alloc())?;
+    let mut merge = MergeBounded::new(rt.alloc(), 2);
+    let Ok(key) = merge.try_push(stream) else {
+        return Ok(());
+    };
+    let Ok(other) = merge.try_push(other) else {
+        return Ok(());
+    };
+    assert_same(rt, next_keyed(cx, &mut merge, &first, 1), Some((1, key)));
+    assert_same(rt, next_keyed(cx, &mut merge, &second, 2), Some((2, other)));
+    assert_same(rt, next_keyed(cx, &mut merge, &first, 3), Some((3, key)));
+    assert_same(rt, (merge.cancel(key), merge.cancel(key), merge.len()), (true, false, 1));
+    let _ = first.unbounded_send(4);
+    assert_same(rt, next_keyed(cx, &mut merge, &second, 5), Some((5, other)));
+    assert_same(rt, merge.cancel(other), true);
+    assert_same(rt, merge.poll_next(cx), Poll::Ready(None));
+    Ok(())
+}
+
+// A stream has the key of its push at each of its items. The item that a cancelled stream has ready is not returned.
+#[test]
+fn a_stream_keeps_its_key(rt: HostRuntime) -> Result<(), Fail> {
+    let task = MockTask::new(&rt)?;
+    task.enter(|cx| merged_by_key(&rt, cx))
 }
 
 // Whether it is pending, and whether its task is woken then.

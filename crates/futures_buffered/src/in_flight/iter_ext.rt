@@ -4,8 +4,8 @@ ghost use Rattle.futures_buffered_core.specs.Drawn.{IsFiniteSource, items_of};
 ghost use Rattle.futures_buffered_unordered.specs.Extended.{EachDrawn, HoldsAllOf, MakesFull};
 ghost use Rattle.futures_buffered_in_flight.specs.InFlight.{CanPollAll, FliesInOrder, flight_slots};
 ghost use Rattle.futures_buffered_in_flight.specs.InFlightOrdered.{CanPollOrdered, HoldsInTurn, ordered_room};
+ghost use Rattle.futures_buffered_in_flight.specs.InFlightMerge.{HoldsStreams, streams_held};
 ghost use Rattle.futures_buffered_joins.specs.InFlightJoin.{CanPollFlying, MakesFlying};
-ghost use Rattle.futures_buffered_merges.specs.InFlightMerge.{HoldsStreams};
 
 use crate::in_flight::{
     FuturesOrdered, FuturesOrderedBounded, FuturesUnordered, FuturesUnorderedBounded, JoinAll,
@@ -124,9 +124,9 @@ pub trait IterExt: IntoIterator + Sized {
         requires each { EachDrawn (items_of Self.IntoIterator Self.IntoIter.Iterator self) Self.Item.can_poll }
         ensures holds { IfOk result
             (HoldsAllOf (items_of Self.IntoIterator Self.IntoIter.Iterator self) (HoldsStreams Self.Item.Stream)) }
-        ensures limit { IfOk result (λ merge. merge.limit ≡ merge.held) }
+        ensures limit { IfOk result (λ merge. merge.limit ≡ streams_held merge) }
     {
-        futures_buffered_merges::in_flight_merge::merge(alloc, self)
+        futures_buffered_in_flight::in_flight_merge::merge(alloc, self)
     }
 
     /// Makes a merge of these streams, and of any number that are pushed later. The call is the function
@@ -140,7 +140,7 @@ pub trait IterExt: IntoIterator + Sized {
             (HoldsAllOf (items_of Self.IntoIterator Self.IntoIter.Iterator self) (HoldsStreams Self.Item.Stream)) }
         ensures limit { IfOk result (λ merge. merge.limit ≡ 2 ^ 64 - 1) }
     {
-        futures_buffered_merges::in_flight_merge::merge_unbounded(alloc, self)
+        futures_buffered_in_flight::in_flight_merge::merge_unbounded(alloc, self)
     }
 }
 

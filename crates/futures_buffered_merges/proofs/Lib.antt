@@ -1,2 +1,0 @@
-pub mod InFlightMergeLemmas
-pub mod WaitingMergeLemmas

@@ -1,2 +1,0 @@
-pub mod WithEnd
-pub mod InFlightMerge
