@@ -141,17 +141,13 @@ module _ {F A T : Type 0} (future : FutureOf F A) where
       → new.slots ≡ old.slots → new.next ≡ old.next → new.cancelled ≡ old.cancelled → new.waiting ≡ old.waiting
       → Flies future old value new
   flies old new value waits each gives one_more below slots next cancelled same =
-      record {
-        running = each;
-        waiting = subst (λ ws. CanPollWaiting future ws) (sym same) waits;
-        gives = λ came g. elim g [
-          | inl run ↦ elim (gives came run) [ inl was ↦ inl (inl was) | inr own ↦ inr (own.0, below, own.1) ]
-          | inr wait ↦ inl (inr (subst (λ ws. AnyWaitGives future ws came) same wait))
-        ];
-        counts = omega (arith, one_more, ap length same);
-        slots = slots;
-        rest = (cancelled, next);
-      }
+      let waiting = subst (λ ws. CanPollWaiting future ws) (sym same) waits in
+      let may : (came : Key × Option A) → MayCome future new came → MayCome future old came ⊎ WaitGives future value came = λ came g. elim g [
+        | inl run ↦ elim (gives came run) [ inl was ↦ inl (inl was) | inr own ↦ inr (own.0, below, own.1) ]
+        | inr wait ↦ inl (inr (subst (λ ws. AnyWaitGives future ws came) same wait))
+      ] in
+      let waits = ap length same in
+      grind arith
 
   -- it waits behind the others
   pub left_waiting : (old new : Flights F T) (value : Waits F) → CanPollWaiting future old.waiting
@@ -305,18 +301,10 @@ module _ {F A T : Type 0} (future : FutureOf F A) where
   -- a poll of what the starts and turns before left
   pub polls_from : (old mid new : Flights F T) (answer : Poll (Option (Came A T))) (cx asked left : Context) → Starts future old mid → Keeps cx asked → 0 < held_count mid.slots → PollsInFlight future mid answer new asked left → PollsInFlight future old answer new cx left
   polls_from old mid new answer cx asked left s kept some p =
-      record {
-        gave = gave answer p.gave;
-        narrows = λ came g. s.less came (p.narrows came g);
-        keys = p.keys ∙ s.keys;
-        room = omega (arith, p.room, s.room);
-        stays = p.stays;
-        ended = p.ended;
-        started = p.started;
-        registered = p.registered;
-        kept = λ fact h. p.kept fact (kept fact h);
-        again = p.again;
-      }
+      let gave = gave answer p.gave in
+      let less : FlightsGiveNoMore future old new = λ came g. s.less came (p.narrows came g) in
+      let kept : Keeps cx left = λ fact h. p.kept fact (kept fact h) in
+      grind arith
     where
       gave : (answer : Poll (Option (Came A T))) → GivesByKey future mid answer new → GivesByKey future old answer new
       gave (Ready None) g = absurd (omega (arith, some, g.0))
@@ -331,34 +319,16 @@ module _ {F A T : Type 0} (future : FutureOf F A) where
   -- the task polls again
   pub pended : (old new : Flights F T) (cx asked left : Context) → Starts future old new → Keeps cx asked → 0 < held_count new.slots → Keeps asked left → IsArmed left → IsWoken left → PollsInFlight future old Pending new cx left
   pended old new cx asked left s kept some keeps armed heard =
-      record {
-        gave = (subst (λ (slots : Slots (Place T)). 0 < held_count slots) s.slots some, s.slots);
-        narrows = s.less;
-        keys = s.keys;
-        room = s.room;
-        stays = inr heard;
-        ended = inr heard;
-        started = inr heard;
-        registered = (armed, λ source _. heard source);
-        kept = λ fact h. keeps fact (kept fact h);
-        again = s.again;
-      }
+      let some = subst (λ (slots : Slots (Place T)). 0 < held_count slots) s.slots some in
+      let registered : Covers left (FlightsWaitAt new) = (armed, λ source _. heard source) in
+      let kept : Keeps cx left = λ fact h. keeps fact (kept fact h) in
+      grind arith
 
   -- nothing is held
   pub ends : (old new : Flights F T) (cx : Context) → held_count old.slots ≡ 0 → new.cancelled ≡ 0 → new.waiting ≡ [] → new.slots ≡ old.slots → new.next ≡ old.next → (old.cancelled ≡ 0 → new ≡ old) → FlightsGiveNoMore future old new → CanPollAll future new → PollsInFlight future old (Ready None) new cx cx
   ends old new cx none gone no_waiting slots next same less again =
-      record {
-        gave = (none, slots, gone, same);
-        narrows = less;
-        keys = next;
-        room = omega (arith, gone);
-        stays = tt;
-        ended = tt;
-        started = inl no_waiting;
-        registered = tt;
-        kept = λ fact h. h;
-        again = again;
-      }
+      let kept : Keeps cx cx = λ fact h. h in
+      grind arith
 
   -- one turn: the kit's set was polled, and then some room may be free
   pub turned : (old mid new : Flights F T) → CanPollAll future old → CanPollRuns future mid.running
@@ -368,31 +338,18 @@ module _ {F A T : Type 0} (future : FutureOf F A) where
       → Starts future old new
   turned old mid new can each narrows slots next waiting cancelled running slots2 next2 waiting2 room =
       let less = less_after old new (λ came h. narrows came (subst (λ runs. AnyRunGives future runs came) running h)) (waiting2 ∙ waiting) in
-      record {
-        slots = slots2 ∙ slots;
-        keys = next2 ∙ next;
-        room = omega (arith, room, cancelled);
-        less = less;
-        again = can_after old new can (subst (λ runs. CanPollRuns future runs) (sym running) each) (waiting2 ∙ waiting) (next2 ∙ next) less;
-      }
+      let again = can_after old new can (subst (λ runs. CanPollRuns future runs) (sym running) each) (waiting2 ∙ waiting) (next2 ∙ next) less in
+      grind arith
 
   -- the kit's set is pending
   pub waited : (old new : Flights F T) (cx asked left : Context) → Starts future old new → 0 < held_count old.slots
       → Covers asked (FlightsWaitAt new) → Keeps cx asked → Keeps asked left → new.waiting ≡ old.waiting → ((old.waiting ≡ []) ⊎ IsWoken cx)
       → ((run_count new.running + length new.waiting ≡ room_taken new) ⊎ IsWoken left) → ((new.cancelled ≡ 0) ⊎ IsWoken left) → PollsInFlight future old Pending new cx left
   waited old new cx asked left s some registered kept keeps waiting started stays ended =
-      record {
-        gave = (some, s.slots);
-        narrows = s.less;
-        keys = s.keys;
-        room = s.room;
-        stays = stays;
-        ended = ended;
-        started = started_still old.waiting new.waiting cx left waiting (λ fact h. keeps fact (kept fact h)) started;
-        registered = (keeps Lasting.armed registered.0, λ source at. keeps (Lasting.hears source) (registered.1 source at));
-        kept = λ fact h. keeps fact (kept fact h);
-        again = s.again;
-      }
+      let kept : Keeps cx left = λ fact h. keeps fact (kept fact h) in
+      let started = started_still old.waiting new.waiting cx left waiting kept started in
+      let registered : Covers left (FlightsWaitAt new) = (keeps Lasting.armed registered.0, λ source at. keeps (Lasting.hears source) (registered.1 source at)) in
+      grind arith
 
   -- an output of a future that is held
   pub came_out : (old mid new : Flights F T) (came : Came A T) (cx left : Context) → CanPollAll future old → CanPollRuns future mid.running
@@ -407,20 +364,12 @@ module _ {F A T : Type 0} (future : FutureOf F A) where
       → PollsInFlight future old (Ready (Some came)) new cx left
   came_out old mid new came cx left can each narrows slots next waiting cancelled gave held freed fewer running next2 waiting2 room started kept =
       let less = less_after old new (λ came h. narrows came (subst (λ runs. AnyRunGives future runs came) running h)) (waiting2 ∙ waiting) in
-      record {
-        gave = record {
-          was_held = subst (λ (s : Slots (Place T)). value_in s came.key.slot ≡ Some (record { tag = came.tag; push = came.key.push })) slots held;
-          gave = inl gave;
-          freed = subst (λ (s : Slots (Place T)). new.slots ≡ with_slot_freed s came.key.slot) slots freed;
-          fewer = subst (λ (s : Slots (Place T)). held_count new.slots + 1 ≡ held_count s) slots fewer;
-        };
-        narrows = less;
-        keys = next2 ∙ next;
-        room = omega (arith, room, cancelled);
-        stays = tt;
-        ended = tt;
-        started = started_still old.waiting new.waiting cx left (waiting2 ∙ waiting) kept started;
-        registered = tt;
-        kept = kept;
-        again = can_after old new can (subst (λ runs. CanPollRuns future runs) (sym running) each) (waiting2 ∙ waiting) (next2 ∙ next) less;
-      }
+      let gave : ComesByKey future old came new = record {
+        was_held = subst (λ (s : Slots (Place T)). value_in s came.key.slot ≡ Some (record { tag = came.tag; push = came.key.push })) slots held;
+        gave = inl gave;
+        freed = subst (λ (s : Slots (Place T)). new.slots ≡ with_slot_freed s came.key.slot) slots freed;
+        fewer = subst (λ (s : Slots (Place T)). held_count new.slots + 1 ≡ held_count s) slots fewer;
+      } in
+      let again = can_after old new can (subst (λ runs. CanPollRuns future runs) (sym running) each) (waiting2 ∙ waiting) (next2 ∙ next) less in
+      let started = started_still old.waiting new.waiting cx left (waiting2 ∙ waiting) kept started in
+      grind arith

@@ -8,7 +8,7 @@ use Rattle.std.proofs.lemmas.Option.{same_Some}
 use Rattle.futures.proofs.EventLemmas.{get_or-push_default}
 use Rattle.futures.specs.Merged.{CanPollNext, NextOf}
 use Rattle.futures.specs.Queued.{AnyGives, AnyMay}
-use Rattle.futures.specs.Runs.{Runs, Within}
+use Rattle.futures.specs.Runs.{After, Runs, Within}
 use Rattle.futures.specs.Task.{Covers, IsArmed, Keeps}
 use Rattle.futures.specs.declared.task.Poll.{Poll}
 use Rattle.futures.specs.declared.task.Poll.TheVariants.{Ready, Pending}
@@ -18,7 +18,7 @@ use Rattle.futures_buffered_core.specs.SlotMap.{Slots, held_count, no_slots, val
 use Rattle.futures_buffered_unordered.specs.FuturesUnorderedBounded.{IsWoken}
 use Rattle.futures_buffered_unordered.specs.StreamAnswers.{StreamAnswers, stream_of}
 use Rattle.futures_buffered_unordered.proofs.HeldGivesLemmas.{None-Some, value_in-with_slot_freed, value_in-with_slot_freed_other}
-use Rattle.futures_buffered_in_flight.specs.InFlight.{CanPollAll, ComesByKey, EntersAt, Flights, FlightsGiveNoMore, GivesWithKey, IsNewInFlight, MakesRoom, MayCome, PollsInFlight, WaitGives, flight_slots, room_taken, runs_in}
+use Rattle.futures_buffered_in_flight.specs.InFlight.{CanPollAll, ComesByKey, EntersAt, FlightsGiveNoMore, FlightsWaitAt, GivesWithKey, IsNewInFlight, MakesRoom, MayCome, PollsInFlight, WaitGives, flight_slots, room_taken, runs_in}
 use Rattle.futures_buffered_in_flight.specs.InFlightMerge.{AnswersNoMore, AnswersThen, AnyAnswers, AnyStream, CanPollStreams, ComesByStream, ComesFromMerged, ComesOfStream, GivesAnswer, HoldsStream, HoldsStreams, IsNewMerge, Merged, MergedWaitsAt, OneGoesOn, OneStreamEndsAtMost, PollsMerge, PollsUnkeyed, StreamEnters, StreamOf, StreamWentIn, Streams, StreamsGoOn, made_set, next_of, streams_held, without_key}
 use Rattle.futures_buffered_in_flight.specs.declared.in_flight.Came.{Came}
 use Rattle.futures_buffered_in_flight.specs.declared.in_flight.Place.{Place}
@@ -131,32 +131,14 @@ module _ {St A : Type 0} (stream : StreamOf St A) where
   pub stays_pending : (old new : Streams St) (cx left : Context) → PollsInFlight (next_of stream) old Pending new cx left → PollsMerge stream old Pending new cx left
   stays_pending old new cx left p =
       let same = ap (λ (s : Slots (Place ℕ)). held_count s) p.gave.1 in
-      record {
-        gave = (omega (arith, same, p.gave.0), goes_on old new (same_places old new p.gave.1) p.narrows);
-        ended = inl same;
-        keys = inl p.keys;
-        stays = p.stays;
-        dropped = p.ended;
-        started = p.started;
-        registered = p.registered;
-        kept = p.kept;
-        again = p.again;
-      }
+      let on = goes_on old new (same_places old new p.gave.1) p.narrows in
+      grind arith
 
   pub came_none : (old new : Streams St) (cx left : Context) → PollsInFlight (next_of stream) old (Ready None) new cx left → PollsMerge stream old (Ready None) new cx left
   came_none old new cx left p =
       let same = ap (λ (s : Slots (Place ℕ)). held_count s) p.gave.1 in
-      record {
-        gave = (omega (arith, same, p.gave.0), p.gave.2, goes_on old new (same_places old new p.gave.1) p.narrows);
-        ended = inl same;
-        keys = inl p.keys;
-        stays = tt;
-        dropped = tt;
-        started = tt;
-        registered = tt;
-        kept = p.kept;
-        again = p.again;
-      }
+      let on = goes_on old new (same_places old new p.gave.1) p.narrows in
+      grind arith
 
   -- what is left of a stream after an item may be polled
   rest_of : (next : StreamFuture St) (x : A) (rest : St) → NextOf stream next (Some x, rest) → stream.can_poll rest
@@ -198,23 +180,14 @@ module _ {St A : Type 0} (stream : StreamOf St A) where
     item new next again x is rest e =
         let slot : again.slot ≡ came.key.slot = same_slot in
         let count : held_count new.slots ≡ held_count old.slots = omega (arith, e.one_more, p.gave.fewer) in
-        record {
-          gave = record {
-            gave = first [] (Some x) is;
-            stays = (again.push, subst (λ slot. value_in new.slots slot ≡ Some (record { tag = came.tag; push = again.push })) slot (its_place (next_of stream) mid new next came.tag again e));
-            same_count = (count, omega (arith, p.gave.fewer));
-            comes = goes_on_from old mid new (record { slot = came.key.slot; push = came.tag }) (stream.yields came.output.1) (λ xs last. ComesOfStream stream old (record { slot = came.key.slot; push = came.tag }) (x ∷ xs) last) mid_goes_on (λ xs last h. first (x ∷ xs) last (is, h))
-                (subst (λ slot. OneGoesOn stream mid (record { slot = slot; push = came.tag }) (stream.yields came.output.1) new) slot (enters mid new next came.output.1 came.tag again rest e));
-          };
-          ended = inl count;
-          keys = inr (e.numbered.1 ∙ ap (λ n. min (n + 1) (2 ^ 64 - 1)) p.keys);
-          stays = tt;
-          dropped = tt;
-          started = tt;
-          registered = tt;
-          kept = p.kept;
-          again = e.again;
-        }
+        let some : 0 < held_count old.slots = omega (arith, p.gave.fewer) in
+        let gave = first [] (Some x) is in
+        let stays : HoldsStream new (record { slot = came.key.slot; push = came.tag }) =
+        (again.push, subst (λ slot. value_in new.slots slot ≡ Some (record { tag = came.tag; push = again.push })) slot (its_place (next_of stream) mid new next came.tag again e)) in
+        let comes = goes_on_from old mid new (record { slot = came.key.slot; push = came.tag }) (stream.yields came.output.1) (λ xs last. ComesOfStream stream old (record { slot = came.key.slot; push = came.tag }) (x ∷ xs) last) mid_goes_on (λ xs last h. first (x ∷ xs) last (is, h))
+            (subst (λ slot. OneGoesOn stream mid (record { slot = slot; push = came.tag }) (stream.yields came.output.1) new) slot (enters mid new next came.output.1 came.tag again rest e)) in
+        let keys = e.numbered.1 ∙ ap (λ n. min (n + 1) (2 ^ 64 - 1)) p.keys in
+        grind arith
       where
         same_slot : again.slot ≡ came.key.slot
         same_slot =
@@ -232,32 +205,18 @@ module _ {St A : Type 0} (stream : StreamOf St A) where
         → PollsMerge stream old (Ready None) new cx at
     all_ended new is few none same next less again =
         let count = ap (λ (s : Slots (Place ℕ)). held_count s) same in
-        record {
-          gave = (omega (arith, count, few, p.gave.fewer), none, mid_on new same less);
-          ended = ends is new same;
-          keys = inl (next ∙ p.keys);
-          stays = tt;
-          dropped = tt;
-          started = tt;
-          registered = tt;
-          kept = p.kept;
-          again = again;
-        }
+        let on = mid_on new same less in
+        let end = ends is new same in
+        grind arith
 
     -- a stream has ended, and others are held
     pub one_ended : (left : Context) → came.output.0 ≡ None → 1 < held_count old.slots → Keeps at left → IsArmed left → IsWoken left → PollsMerge stream old Pending mid cx left
     one_ended left is more keeps armed heard =
-        record {
-          gave = (omega (arith, more, p.gave.fewer), mid_goes_on);
-          ended = ends is mid refl;
-          keys = inl p.keys;
-          stays = inr heard;
-          dropped = inr heard;
-          started = inr heard;
-          registered = (armed, λ source _. heard source);
-          kept = λ fact h. keeps fact (p.kept fact h);
-          again = p.again;
-        }
+        let on = mid_goes_on in
+        let end = ends is mid refl in
+        let registered : Covers left (FlightsWaitAt mid) = (armed, λ source _. heard source) in
+        let kept : Keeps cx left = λ fact h. keeps fact (p.kept fact h) in
+        grind arith
 
   -- what any stream may return after a push or an item
   any_on : (old new : Streams St) (key : Key) (own : Runs A) → OneGoesOn stream old key own new → (answer : Option A) → AnyAnswers stream new answer → AnyAnswers stream old answer ⊎ ((before : List A) × own before answer)
@@ -280,33 +239,16 @@ module _ {St A : Type 0} (stream : StreamOf St A) where
 
   stream_answers : (old new : Merged St) (answer : Poll (Option (Came A (Unit {0})))) (cx left : Context) → PollsMerge stream old.set answer new.set cx left
       → StreamAnswers (stream_of (CanPollStreams stream) MergedWaitsAt (ComesFromMerged stream)) old (without_key answer) new cx left
-  stream_answers old new Pending cx left p = record {
-    value = tt;
-    rest = tt;
-    same = λ xs last h. comes_before old new p.ended (narrows old.set new.set Pending p.gave) xs xs last h;
-    goes = tt;
-    again = p.again;
-    registered = p.registered;
-    kept = p.kept;
-  }
-  stream_answers old new (Ready None) cx left p = record {
-    value = elim p.ended [ inl same ↦ inl (sym same ∙ p.gave.0) | inr one ↦ inr one.1 ];
-    rest = tt;
-    same = tt;
-    goes = tt;
-    again = tt;
-    registered = tt;
-    kept = p.kept;
-  }
-  stream_answers old new (Ready (Some came)) cx left p = record {
-    value = (came.key, [], p.gave.gave);
-    rest = λ xs last h. comes_before old new p.ended (narrows old.set new.set (Ready (Some came)) p.gave) (came.output ∷ xs) xs last h;
-    same = tt;
-    goes = p.again;
-    again = tt;
-    registered = tt;
-    kept = p.kept;
-  }
+  stream_answers old new Pending cx left p =
+      let comes : Within (ComesFromMerged stream old) (ComesFromMerged stream new) = λ xs last h. comes_before old new p.ended (narrows old.set new.set Pending p.gave) xs xs last h in
+      grind arith
+  stream_answers old new (Ready None) cx left p =
+      let value : ComesFromMerged stream old [] None = elim p.ended [ inl same ↦ inl (sym same ∙ p.gave.0) | inr one ↦ inr one.1 ] in
+      grind arith
+  stream_answers old new (Ready (Some came)) cx left p =
+      let value : ComesFromMerged stream old [] (Some came.output) = (came.key, [], p.gave.gave) in
+      let comes : After (ComesFromMerged stream old) came.output (ComesFromMerged stream new) = λ xs last h. comes_before old new p.ended (narrows old.set new.set (Ready (Some came)) p.gave) (came.output ∷ xs) xs last h in
+      grind arith
 
   pub polled_as : (old new : Merged St) (answer : Poll (Option A)) (cx left : Context) → PollsUnkeyed stream old answer new cx left
       → StreamAnswers (stream_of (CanPollStreams stream) MergedWaitsAt (ComesFromMerged stream)) old answer new cx left
@@ -357,14 +299,5 @@ none_holds St key h = absurd (None-Some h.1)
 
 pub none_made : {St A : Type 0} (stream : StreamOf St A) (cx : Context) → PollsMerge stream (made_set None) (Ready None) (made_set None) cx cx
 none_made stream cx =
-    record {
-      gave = (refl, refl, λ key xs last h. h);
-      ended = inl refl;
-      keys = inl refl;
-      stays = tt;
-      dropped = tt;
-      started = tt;
-      registered = tt;
-      kept = λ fact h. h;
-      again = none_can_poll (next_of stream) (made_set None) refl refl;
-    }
+    let can = none_can_poll (next_of stream) (made_set None) refl refl in
+    grind arith

@@ -14,7 +14,7 @@ use Rattle.futures_buffered_core.specs.SlotMap.{Slots, held_count, no_slots}
 use Rattle.futures_buffered_unordered.specs.FuturesUnorderedBounded.{IsWoken}
 use Rattle.futures_buffered_unordered.specs.StreamAnswers.{StreamAnswers, stream_of}
 use Rattle.futures_buffered_unordered.specs.declared.poll_one.PollFuture.{PollFuture}
-use Rattle.futures_buffered_unordered.proofs.StreamAnswersLemmas.{after_item, while_pending}
+use Rattle.futures_buffered_unordered.proofs.StreamAnswersLemmas.{answers_of}
 use Rattle.futures_buffered_ordered.specs.Numbered.{PollsNumberedSet, one_at}
 use Rattle.futures_buffered_ordered.specs.declared.numbered_polls.NumberedPolls.{Ghosts as NumberedPollsOf}
 use Rattle.futures_buffered_ordered.specs.OrderedEntries.{AddsBack, AddsFront, BesideTask, HandsBack, IsUnused, MayRefuse, Ordered, OrderedGives, PollsOrdered, QueueIsAtBound, SetYields, with_task}
@@ -75,42 +75,21 @@ module _ {F A : Type 0} (future : FutureOf F A) where
   -- what an ordered queue requires of a poll of the futures
   pub polls_set : (old new : Flights F ℕ) (answer : Poll (Option (ℕ × A))) (cx left : Context) → PollsQueued future by_tag old answer new cx left → PollsNumberedSet flying_polls flight_count flights_with HasGrown old answer new cx left
   polls_set old new (Ready None) cx left p =
-      let same = p.0.gave.1 in
-      record {
-        gave = p;
-        empty = p.0.gave.0;
-        fewer = omega (arith, ap (λ (s : Slots (Place ℕ)). held_count s) same);
-        numbers = λ i. omega (arith, ap (λ slots. tagged_with i slots) same);
-        set = omega (arith, (polled_room future old new (Ready None) p.0.gave).0);
-        covered = tt;
-        kept = p.0.kept;
-        pollable = p.1;
-      }
+      let count = ap (λ (s : Slots (Place ℕ)). held_count s) p.0.gave.1 in
+      let numbers : (i : ℕ) → flights_with i new ≡ flights_with i old = λ i. ap (λ slots. tagged_with i slots) p.0.gave.1 in
+      let room = polled_room future old new (Ready None) p.0.gave in
+      grind arith
   polls_set old new (Ready (Some out)) cx left p =
       let came = p.0 in
       let gave = p.2.gave in
-      record {
-        gave = p;
-        empty = tt;
-        fewer = gave.fewer;
-        numbers = λ i. omega (arith, ap (λ slots. tagged_with i slots) gave.freed, tags_freed i old.slots came.key.slot _ gave.was_held, ap (λ (o : ℕ × A). one_at i o.0) p.1);
-        set = omega (arith, (polled_room future old new (Ready (Some came)) gave).0);
-        covered = tt;
-        kept = p.2.kept;
-        pollable = p.3;
-      }
+      let numbers : (i : ℕ) → flights_with i new + one_at i out.0 ≡ flights_with i old = λ i. omega (arith, ap (λ slots. tagged_with i slots) gave.freed, tags_freed i old.slots came.key.slot _ gave.was_held, ap (λ (o : ℕ × A). one_at i o.0) p.1) in
+      let room = polled_room future old new (Ready (Some came)) gave in
+      grind arith
   polls_set old new Pending cx left p =
-      let same = p.0.gave.1 in
-      record {
-        gave = p;
-        empty = tt;
-        fewer = omega (arith, ap (λ (s : Slots (Place ℕ)). held_count s) same);
-        numbers = λ i. omega (arith, ap (λ slots. tagged_with i slots) same);
-        set = omega (arith, (polled_room future old new Pending p.0.gave).0);
-        covered = p.0.registered;
-        kept = p.0.kept;
-        pollable = p.1;
-      }
+      let count = ap (λ (s : Slots (Place ℕ)). held_count s) p.0.gave.1 in
+      let numbers : (i : ℕ) → flights_with i new ≡ flights_with i old = λ i. ap (λ slots. tagged_with i slots) p.0.gave.1 in
+      let room = polled_room future old new Pending p.0.gave in
+      grind arith
 
   -- one poll of the futures by some task, told of the queue alone
   abbrev Gave : Flights F ℕ → Poll (Option (ℕ × A)) → Flights F ℕ → Type 0
@@ -218,31 +197,18 @@ module _ {F A : Type 0} (future : FutureOf F A) where
 
     pub answers : IsNumbered flights_with flight_count new → AnswersInTurn future grows old answer new cx after
     answers numbered =
-        record {
-          gave = poll.gave;
-          empty = empty_of Gave flight_count old new answer polled;
-          fewer = fewer_of Gave flight_count old new answer polled;
-          same_count = as_many_of Gave flight_count old new answer polled;
-          holds = poll.queue.holds;
-          same_room = (same, poll.queue.room);
-          bound = λ b. ((polled_keeps numbered).bounded b).bound;
-          registered = poll.queue.covered;
-          started = wakes old new answer cx after poll.gave;
-          kept = poll.queue.kept;
-          again = poll.queue.pollable;
-        }
+        let empty = empty_of Gave flight_count old new answer polled in
+        let fewer = fewer_of Gave flight_count old new answer polled in
+        let count = as_many_of Gave flight_count old new answer polled in
+        let bound : grows ≡ false → length new.entries ≤ flight_slots new.set = λ b. ((polled_keeps numbered).bounded b).bound in
+        let started = wakes old new answer cx after poll.gave in
+        let room = same in
+        grind arith
 
   -- a poll is one of a stream
   pub answers_in_turn : {grows : Bool} (old new : Ordered (Flights F ℕ) A) (answer : Poll (Option A)) (cx after : Context) → AnswersInTurn future grows old answer new cx after
       → StreamAnswers (stream_of (CanPollOrdered future) OrderedWaitsAt (ComesOfEach future)) old answer new cx after
   answers_in_turn old new answer cx after poll =
       let given = alone old new answer cx after poll.gave in
-      record {
-        value = value_of Gave (TagGives future) still gave flight_count old new answer given;
-        rest = rest_of Gave (TagGives future) still gave flight_count old new answer given;
-        same = same_of Gave (TagGives future) still gave flight_count old new answer given;
-        goes = after_item answer poll.again;
-        again = while_pending answer poll.again;
-        registered = poll.registered;
-        kept = poll.kept;
-      }
+      answers_of (stream_of (CanPollOrdered future) OrderedWaitsAt (ComesOfEach future)) old new answer cx after (value_of Gave (TagGives future) still gave flight_count old new answer given) (rest_of Gave (TagGives future) still gave flight_count old new answer given)
+      (same_of Gave (TagGives future) still gave flight_count old new answer given) poll.again poll.registered poll.kept

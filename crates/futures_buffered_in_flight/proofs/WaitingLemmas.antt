@@ -54,16 +54,16 @@ module _ {St A : Type 0} (stream : StreamOf St A) where
 
   came_as : (old new : Merged St) (keyed : Poll (Option (Came A (Unit {0})))) (item : Option A) (cx left : Context) → Ready item ≡ without_key keyed → PollsMerge stream old.set keyed new.set cx left → new.limit ≡ old.limit → CameOfMerge stream old item new
   came_as old new Pending item cx left is p limit = absurd (cc)
-  came_as old new (Ready None) None cx left is p limit = record { gave = p.gave.0; ended = one_ended old new p.ended; narrows = narrows stream old.set new.set (Ready None) p.gave; same_limit = limit; again = p.again }
+  came_as old new (Ready None) None cx left is p limit =
+      let ended = one_ended old new p.ended in
+      let less = narrows stream old.set new.set (Ready None) p.gave in
+      grind arith
   came_as old new (Ready (Some came)) (Some x) cx left is p limit =
       let same : x ≡ came.output = cc in
-      record {
-        gave = (omega (arith, p.gave.same_count.0, p.gave.same_count.1), subst (λ x. AnyAnswers stream old.set (Some x)) (sym same) (came.key, [], p.gave.gave));
-        ended = one_ended old new p.ended;
-        narrows = narrows stream old.set new.set (Ready (Some came)) p.gave;
-        same_limit = limit;
-        again = p.again;
-      }
+      let gave : AnyAnswers stream old.set (Some x) = subst (λ x. AnyAnswers stream old.set (Some x)) (sym same) (came.key, [], p.gave.gave) in
+      let ended = one_ended old new p.ended in
+      let less = narrows stream old.set new.set (Ready (Some came)) p.gave in
+      grind arith
   came_as old new (Ready None) (Some x) cx left is p limit = absurd (cc)
   came_as old new (Ready (Some came)) None cx left is p limit = absurd (cc)
 
@@ -74,14 +74,11 @@ module _ {St A : Type 0} (stream : StreamOf St A) where
   pub came_of_merge_later : (old mid new : Merged St) (item : Option A) (cx left : Context) → PollsUnkeyed stream old Pending mid cx left → CameOfMerge stream mid item new → CameOfMerge stream old item new
   came_of_merge_later old mid new item cx left p c =
       let before = narrows stream old.set mid.set p.keyed p.polls.gave in
-      record {
-        gave = gave item c.gave;
-        ended = ended_on old mid new before (one_ended old mid p.polls.ended) c.ended;
-        narrows = λ answer h. before answer (c.narrows answer h);
-        same_limit = c.same_limit ∙ p.same_limit;
-        again = c.again;
-      }
+      let ended = ended_on old mid new before (one_ended old mid p.polls.ended) c.ended in
+      let less : AnswersNoMore stream old.set new.set = λ answer h. before answer (c.narrows answer h) in
+      let gave = came_before item before c.gave in
+      grind arith
     where
-      gave : (item : Option A) → MatchOption item (streams_held new ≡ 0) (λ x. (0 < streams_held new) × AnyAnswers stream mid.set (Some x)) → MatchOption item (streams_held new ≡ 0) (λ x. (0 < streams_held new) × AnyAnswers stream old.set (Some x))
-      gave None g = g
-      gave (Some x) g = (g.0, narrows stream old.set mid.set p.keyed p.polls.gave (Some x) g.1)
+      came_before : (item : Option A) → AnswersNoMore stream old.set mid.set → MatchOption item (streams_held new ≡ 0) (λ x. (0 < streams_held new) × AnyAnswers stream mid.set (Some x)) → MatchOption item (streams_held new ≡ 0) (λ x. (0 < streams_held new) × AnyAnswers stream old.set (Some x))
+      came_before None before g = g
+      came_before (Some x) before g = (g.0, before (Some x) g.1)

@@ -40,20 +40,6 @@ impl<St: Stream<Item: Drop>, K: Kind> FuturesUnorderedBy<StreamFuture<St>, u64, 
         Ok(self.push_any(stream.into_future(), number))
     }
 
-    // Cancels the stream of this key, and returns whether it was held.
-    fn cancel_stream(&mut self, key: Key) -> bool
-        requires { CanPollAll (next_of St.Stream) self.old }
-        ensures cancels { CancelsStream self.old key result self.new }
-        ensures again { CanPollAll (next_of St.Stream) self.new }
-    {
-        let push = match self.slots.value(key.slot) {
-            Some(place) if place.tag == key.push => place.push,
-            _ => return false,
-        };
-        let slot = key.slot;
-        self.cancel(Key { push, slot }).is_some()
-    }
-
     // Polls the streams once. At most one stream ends.
     #[tactic(auto, using(crate::proofs::InFlightMergeLemmas::stays_pending, crate::proofs::InFlightMergeLemmas::came_none, crate::proofs::InFlightMergeLemmas::item, crate::proofs::InFlightMergeLemmas::all_ended, crate::proofs::InFlightMergeLemmas::one_ended, crate::proofs::InFlightMergeLemmas::room_again))]
     fn poll_streams(&mut self, cx: &mut Context<'_>) -> Poll<Option<Came<St::Item>>>
@@ -221,10 +207,15 @@ impl<St: Stream<Item: Drop>> MergeBounded<St> {
         ensures same_limit { self.new.limit ≡ self.old.limit }
         ensures again { CanPollStreams St.Stream self.new }
     {
-        match &mut self.set {
-            Some(set) => set.cancel_stream(key),
-            None => false,
-        }
+        let Some(set) = &mut self.set else {
+            return false;
+        };
+        let push = match set.slots.value(key.slot) {
+            Some(place) if place.tag == key.push => place.push,
+            _ => return false,
+        };
+        let slot = key.slot;
+        set.cancel(Key { push, slot }).is_some()
     }
 
     /// Polls the streams that were pushed or woken since their last poll.
