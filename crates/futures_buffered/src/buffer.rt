@@ -93,6 +93,7 @@ impl<St: Drop, Q: NewQueue<Env = (), Source = SharedReady>> Buffer<St, Q> {
 }
 
 // Takes one item, if the stream has not ended, there is room, and an item comes. Drops a stream that ends.
+#[inline(always)]
 pub(crate) fn next_item<St: Stream, I, Q: FutureQueue<I>>(
     stream: &mut Option<St>,
     queue: &Q,
@@ -191,6 +192,7 @@ impl<St: Stream, Q: FutureQueue<St::Item>> Buffer<St, Q> {
 }
 
 // Returns the answer of a poll, by whether the stream goes on and by what the queue returned.
+#[inline(always)]
 fn after_poll<A>(goes_on: bool, polled: Poll<Option<A>>) -> Poll<Option<A>>
     ensures { result ≡ answer_from goes_on polled }
 {
