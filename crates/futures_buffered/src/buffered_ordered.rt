@@ -1,11 +1,11 @@
 //! Some futures of a stream at a time, whose outputs come in the order of the items.
-ghost use Rattle.futures_buffered.specs.Below.{itself, EachRunning, IsNewBoundedQueue, PollsOrderedBounded};
-ghost use Rattle.futures_buffered.specs.Below.{PushesNumber, SetMayGive};
-ghost use Rattle.std.specs.Prelude.{true};
+ghost use Rattle.futures_buffered.specs.Below.{EachRunning, IsNewBoundedQueue, PollsOrderedBounded, PushesNumber};
+ghost use Rattle.futures_buffered.specs.Below.{SetMayGive, held_in, itself};
+ghost use Rattle.std.specs.Prelude.{◌<◌, true};
 ghost use Rattle.futures_buffered_ordered.specs.OrderedEntries.{AddsBack, ComesInOrder};
 ghost use Rattle.futures_buffered.specs.FutureQueue.{OnlyPushes};
 ghost use Rattle.futures_buffered.specs.BufferUnordered.{MayGiveInSlot};
-ghost use Rattle.futures_buffered.specs.BufferedOrdered.{GivesInOrder, QueueWaitsAt, queue_len, queue_slots};
+ghost use Rattle.futures_buffered.specs.BufferedOrdered.{GivesInOrder, queue_len, queue_slots};
 
 use crate::buffer::Buffer;
 use crate::future_queue::{FutureQueue, NewQueue};
@@ -75,7 +75,7 @@ impl<F: SlotFuture<S::Waker, Output = A>, A: Drop, S: ReadySource> FutureQueue<F
 
     ghost in_order = { true };
 
-    ghost needs = { QueueWaitsAt S.needs };
+    ghost needs = { λ queue place. (0 < held_in queue.set) × S.needs queue.set.source place };
 
     fn len(&self) -> usize {
         self.queue.len()

@@ -80,6 +80,7 @@ where
         self.queue.capacity()
     }
 
+    #[tactic(auto, using(crate::proofs::TryBufferLemmas::ok_adds, crate::proofs::TryBufferLemmas::error_adds))]
     fn push(&mut self, item: Result<F, E>) -> Option<Result<T, E>> {
         match item {
             Ok(future) => self.queue.push(future),

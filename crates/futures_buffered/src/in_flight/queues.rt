@@ -49,6 +49,7 @@ impl<F: Future<Output: Drop>> FutureQueue<F> for FuturesUnorderedBounded<F> {
         None
     }
 
+    #[tactic(auto, using(crate::proofs::InFlightLemmas::polls_queue))]
     fn poll_output(&mut self, cx: &mut Context<'_>) -> Poll<Option<F::Output>> {
         self.poll_queued(cx)
     }
