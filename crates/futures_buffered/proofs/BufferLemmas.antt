@@ -1,6 +1,6 @@
 -- What one draw, and one poll of the queue, leave of what may come from a buffer, and of whether it may be polled.
 use Rattle.std.proofs.Common.{◌≡◌, ◌⊎◌, ℕ, ◌+◌, ◌<◌, ◌≤◌, List, [], ◌∷◌, ◌++◌, length, Option, Some, None, IfNone, IfSome, IsSomeAnd, Bool, true, false, is_some, refl, sym, ap, subst, inl, inr, arith, ◌∙◌, append_assoc, length-append}
-use Rattle.futures_buffered.proofs.Common.{FoldsTo, FoldsTo-push, Poll, Ready, Pending, Context, Lasting, Covers, Keeps, Hears, Runs, After, Within, AllItems, Ends, Leads, Chains, Resolves, IfReady, OnPending, StreamAnswers, stream_of, MayCome, AddsOutput, PollsFutureQueue, PushAddsOutput, PushLeavesQueue, Buffering, Follows, FutureQueueOf, StreamOf, Ahead, AsksStream, DrawsItem, DrawsNone, DrawsTask, FillsBuffer, HasNoTurn, PollsBuffer, PollsStream, WaitsAt, OneComes, BufferGives, buffer_of, answer_from, none-some}
+use Rattle.futures_buffered.proofs.Common.{FoldsTo, FoldsTo-push, Poll, Ready, Pending, Context, Lasting, Covers, Keeps, Hears, Runs, After, Within, AllItems, Ends, Leads, Chains, Resolves, IfReady, OnPending, StreamAnswers, MayCome, AddsOutput, PollsFutureQueue, PushAddsOutput, PushLeavesQueue, Buffering, Follows, FutureQueueOf, StreamOf, Ahead, AsksStream, DrawsItem, DrawsNone, DrawsTask, FillsBuffer, HasNoTurn, PollsBuffer, PollsStream, WaitsAt, OneComes, BufferGives, buffer_of, answer_from, none-some}
 use Rattle.std.specs.List.{AllByRecursion}
 use Rattle.futures.proofs.RunLemmas.{Maps-Leads, Maps-Within, Maps_end}
 use Rattle.futures.proofs.SentLemmas.{AllByRecursion_weaker}
@@ -163,7 +163,7 @@ module _ {St X A Q : Type 0} (source : StreamOf St X) (by : FutureQueueOf Q X A)
         bound = bound;
         again = record { stream = next; to_come = fit_within source.yields by.is_fit s t less so.again.to_come; held = so.again.held };
         value = tt;
-        rest = λ xs last h. so.within xs last (stream_within source.yields by.gives by.count by.yields by.in_order s t q less xs last h);
+        rest = λ xs last h. so.within xs last (stream_within source.yields by.gives by.count by.as_stream.yields by.in_order s t q less xs last h);
         task = record {
           covered = λ _. task.covered none;
           no_turn = λ had_none. task.no_turn (turn had_none) ∙ (so.no_turn had_none).1;
@@ -172,27 +172,27 @@ module _ {St X A Q : Type 0} (source : StreamOf St X) (by : FutureQueueOf Q X A)
       }
 
   -- an item came, by what its push returned
-  module _ (left : St) (item : X) (new : Q) (asks : AsksStream (PollsStream source.yields) by.count (by.room q) (record { stream = s; queue = q }) (Ready (Some item)) left) (next : source.can_poll left) (again : by.can_poll new) where
+  module _ (left : St) (item : X) (new : Q) (asks : AsksStream (PollsStream source.yields) by.count (by.room q) (record { stream = s; queue = q }) (Ready (Some item)) left) (next : source.can_poll left) (again : by.as_stream.can_poll new) where
     drew : (given : Option A) → by.pushes q item given new → DrawsItem (PollsStream source.yields) by.count (by.room old.queue) by.pushes given (record { stream = s; queue = q }) item (record { stream = Some left; queue = new })
     drew given pushed = rw (← so.room) (record { left = left; asks = asks; stream_left = refl; pushed = pushed })
 
     can : (buffer_of source by).can_poll (record { stream = Some left; queue = new })
     can = record { stream = next; to_come = λ xs x h. (rw asks.not_ended at so.again.to_come) (item ∷ xs) x (asks.answers.rest xs (Some x) h); held = again }
 
-    pub fill_item : by.pushes q item None new → PushLeavesQueue {A = A} by.count by.room q None new → PushAddsOutput by.in_order by.yields (by.gives item) q None new → Filling source by old (record { stream = Some left; queue = new }) cx after
+    pub fill_item : by.pushes q item None new → PushLeavesQueue {A = A} by.count by.room q None new → PushAddsOutput by.in_order by.as_stream.yields (by.gives item) q None new → Filling source by old (record { stream = Some left; queue = new }) cx after
     fill_item pushed push output = record {
       drawn = so.drawn ++ item ∷ [];
       items = FoldsTo-push (DrawsItem (PollsStream source.yields) by.count (by.room old.queue) by.pushes None) old so.drawn (record { stream = s; queue = q }) item (record { stream = Some left; queue = new }) so.items (drew None pushed);
       room = push.same_room ∙ so.room;
       again = can;
-      within = λ xs last h. so.within xs last (rw asks.not_ended (item_within source.yields by.gives by.count by.yields by.in_order asks.stream left item q new output.adds push.one_more asks.answers.value asks.answers.rest xs last h));
+      within = λ xs last h. so.within xs last (rw asks.not_ended (item_within source.yields by.gives by.count by.as_stream.yields by.in_order asks.stream left item q new output.adds push.one_more asks.answers.value asks.answers.rest xs last h));
       no_turn = λ none. absurd (asked_had_turn (PollsStream source.yields) by.count (by.room q) (record { stream = s; queue = q }) _ left asks (turn none));
       kept = λ fact h. kept fact (so.kept fact h);
     }
 
-    pub fill_gave : (x : A) → by.pushes q item (Some x) new → PushLeavesQueue by.count by.room q (Some x) new → PushAddsOutput by.in_order by.yields (by.gives item) q (Some x) new → FillsBuffer source by old (Some x) (record { stream = Some left; queue = new }) cx after
+    pub fill_gave : (x : A) → by.pushes q item (Some x) new → PushLeavesQueue by.count by.room q (Some x) new → PushAddsOutput by.in_order by.as_stream.yields (by.gives item) q (Some x) new → FillsBuffer source by old (Some x) (record { stream = Some left; queue = new }) cx after
     fill_gave x pushed push output =
-        let one : One source.yields by.gives by.count by.yields (Some asks.stream) q x = inr ([], item, asks.answers.value, output.value) in
+        let one : One source.yields by.gives by.count by.as_stream.yields (Some asks.stream) q x = inr ([], item, asks.answers.value, output.value) in
         record {
           drawn = so.drawn;
           draws = record { full = record { stream = s; queue = q }; items = so.items; last = (item, drew (Some x) pushed) };
@@ -200,7 +200,7 @@ module _ {St X A Q : Type 0} (source : StreamOf St X) (by : FutureQueueOf Q X A)
           bound = let e = ap by.count push.stays in omega (arith, asks.has_room, e, push.same_room);
           again = can;
           value = so.within [] (Some x) (rw (asks.not_ended, output.overtakes) (record { each = tt; ends = one }));
-          rest = λ xs last h. so.within (x ∷ xs) last (rw (asks.not_ended, output.overtakes) (item_gathers source.yields by.gives by.count by.yields asks.stream left item q q (x ∷ []) (λ ys each. (one, each)) (λ y any. inl any) (omega arith) asks.answers.value asks.answers.rest xs last (rw (output.overtakes, push.stays) at h)));
+          rest = λ xs last h. so.within (x ∷ xs) last (rw (asks.not_ended, output.overtakes) (item_gathers source.yields by.gives by.count by.as_stream.yields asks.stream left item q q (x ∷ []) (λ ys each. (one, each)) (λ y any. inl any) (omega arith) asks.answers.value asks.answers.rest xs last (rw (output.overtakes, push.stays) at h)));
           task = record {
             covered = λ none. absurd (none-some x (sym none));
             no_turn = λ none. absurd (asked_had_turn (PollsStream source.yields) by.count (by.room q) (record { stream = s; queue = q }) _ left asks (turn none));
@@ -244,32 +244,32 @@ module _ {St A Q : Type 0} (stream_needs : St → ℕ → Type 0) (queue : Strea
 -- what a call is after its draws, by what its poll of the queue returned: how it ends, and what it is as a stream
 answers_by : {St X A Q : Type 0} (source : StreamOf St X) (by : FutureQueueOf Q X A) (old : Buffering St Q) (stream : Option St) (queue left : Q) (queue_answer : Poll (Option A)) (cx before after : Context)
     → Within ((buffer_of source by).yields old) ((buffer_of source by).yields (record { stream = stream; queue = queue })) → (buffer_of source by).can_poll (record { stream = stream; queue = left })
-    → (by.count queue < by.room queue → IfSome stream (λ s. Covers before (source.needs s))) → Keeps cx after → PollsFutureQueue by.polls by.count by.room (stream_of by.can_poll by.needs by.yields) queue queue_answer left before after
+    → (by.count queue < by.room queue → IfSome stream (λ s. Covers before (source.needs s))) → Keeps cx after → PollsFutureQueue by.polls by.count by.room by.as_stream queue queue_answer left before after
     → IfReady (answer_from (is_some stream) queue_answer) (λ o. IfNone o ((stream ≡ None) × (by.count left ≡ 0))) × OnPending (answer_from (is_some stream) queue_answer) (stream ≡ None → 0 < by.count left)
     × StreamAnswers (buffer_of source by) old (answer_from (is_some stream) queue_answer) (record { stream = stream; queue = left }) cx after
 answers_by source by old stream queue left (Ready (Some x)) cx before after within can covered kept polled =
     let fewer : by.count left + 1 ≡ by.count queue = polled.counts in
-    let value = queue_value source.yields by.gives by.count by.yields by.in_order stream queue x polled.as_stream.value in
-    let rest = queue_follows source.yields by.gives by.count by.yields by.in_order stream queue left (x ∷ []) (λ ys each. (inl ([], polled.as_stream.value), each)) polled.as_stream.rest (omega (arith, fewer)) in
+    let value = queue_value source.yields by.gives by.count by.as_stream.yields by.in_order stream queue x polled.as_stream.value in
+    let rest = queue_follows source.yields by.gives by.count by.as_stream.yields by.in_order stream queue left (x ∷ []) (λ ys each. (inl ([], polled.as_stream.value), each)) polled.as_stream.rest (omega (arith, fewer)) in
     (tt, tt, answers_of (buffer_of source by) old _ _ cx after (within [] (Some x) value) (λ xs last h. within (x ∷ xs) last (rest xs last h)) tt can tt kept)
 answers_by source by old None queue left (Ready None) cx before after within can covered kept polled =
-    let value = queue_ends source.yields by.gives by.count by.yields by.in_order queue polled.as_stream.value polled.counts.0 in
+    let value = queue_ends source.yields by.gives by.count by.as_stream.yields by.in_order queue polled.as_stream.value polled.counts.0 in
     ((refl, rw polled.counts.1 polled.counts.0), tt, answers_of (buffer_of source by) old _ _ cx after (within [] None value) tt tt can tt kept)
 answers_by source by old (Some s) queue left (Ready None) cx before after within can covered kept polled =
-    let registered = waits_empty source.needs (stream_of by.can_poll by.needs by.yields) by.count by.room (Some s) queue left before after covered (λ covers. covers.0) polled in
+    let registered = waits_empty source.needs by.as_stream by.count by.room (Some s) queue left before after covered (λ covers. covers.0) polled in
     (tt, λ ended. absurd (none-some s (sym ended)), answers_of (buffer_of source by) old _ _ cx after tt tt (λ xs last h. within xs last (rw (← polled.counts.1) h)) can registered kept)
 answers_by source by old stream queue left Pending cx before after within can covered kept polled =
-    let rest = queue_follows source.yields by.gives by.count by.yields by.in_order stream queue left [] (λ ys each. each) polled.as_stream.same (omega (arith, polled.counts.0)) in
-    let registered = waits_pending source.needs (stream_of by.can_poll by.needs by.yields) by.count by.room stream queue left before after covered polled in
+    let rest = queue_follows source.yields by.gives by.count by.as_stream.yields by.in_order stream queue left [] (λ ys each. each) polled.as_stream.same (omega (arith, polled.counts.0)) in
+    let registered = waits_pending source.needs by.as_stream by.count by.room stream queue left before after covered polled in
     (tt, λ _. polled.counts.1, answers_of (buffer_of source by) old _ _ cx after tt tt (λ xs last h. within xs last (rest xs last h)) can registered kept)
 
 -- a call that ended with a poll of the queue
 pub poll_of : {St X A Q : Type 0} (source : StreamOf St X) (by : FutureQueueOf Q X A) (old : Buffering St Q) (stream : Option St) (queue left : Q) (queue_answer : Poll (Option A)) (cx task_then after : Context)
     → FillsBuffer source by old None (record { stream = stream; queue = queue }) cx task_then
-    → PollsFutureQueue by.polls by.count by.room (stream_of by.can_poll by.needs by.yields) queue queue_answer left task_then after
+    → PollsFutureQueue by.polls by.count by.room by.as_stream queue queue_answer left task_then after
     → PollsBuffer source by old (answer_from (is_some stream) queue_answer) (record { stream = stream; queue = left }) cx after
 poll_of source by old stream queue left queue_answer cx task_then after filled polled =
-    let can : (buffer_of source by).can_poll (record { stream = stream; queue = left }) = record { stream = filled.again.stream; to_come = filled.again.to_come; held = polled_can (stream_of by.can_poll by.needs by.yields) queue left queue_answer task_then after filled.again.held polled } in
+    let can : (buffer_of source by).can_poll (record { stream = stream; queue = left }) = record { stream = filled.again.stream; to_come = filled.again.to_come; held = polled_can by.as_stream queue left queue_answer task_then after filled.again.held polled } in
     let answers = answers_by source by old stream queue left queue_answer cx task_then after filled.rest can (filled.task.covered refl) (λ fact h. polled.as_stream.kept fact (filled.task.kept fact h)) polled in
     record {
       task_then = task_then;

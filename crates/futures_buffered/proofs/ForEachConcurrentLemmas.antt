@@ -1,6 +1,6 @@
 -- What one turn of a for-each leaves.
 use Rattle.std.proofs.Common.{◌≡◌, ◌⊎◌, is_some, ℕ, ◌<◌, ◌≤◌, [], ◌∷◌, Option, Some, None, Bool, true, false, refl, inl, inr, arith, length, ◌∙◌, IfSome}
-use Rattle.futures_buffered.proofs.Common.{chained_keeps, Covers, Keeps, OnPending, Context, Poll, Ready, Pending, Calls, firsts, IsWoken, stream_of, Buffering, DrawsTask, FutureQueueOf, PollsStream, StreamOf, WaitsAt, PollsFutureQueue, PushLeavesQueue, Ahead, PollsInTurns, TakesTurn, TurnLeaves, so_far, DrawsNone, AsksStream}
+use Rattle.futures_buffered.proofs.Common.{chained_keeps, Covers, Keeps, OnPending, Context, Poll, Ready, Pending, Calls, firsts, IsWoken, Buffering, DrawsTask, FutureQueueOf, PollsStream, StreamOf, WaitsAt, PollsFutureQueue, PushLeavesQueue, Ahead, PollsInTurns, TakesTurn, TurnLeaves, so_far, DrawsNone, AsksStream}
 use Rattle.std.specs.Fn.{Mut}
 use Rattle.futures_buffered.specs.ForEachConcurrent.{ForEach, TurnGives, DrawsOnce, turn_answer, CanForEach, MayEnd, for_each_of}
 use Rattle.futures_buffered.proofs.TurnsLemmas.{GoesOn}
@@ -22,7 +22,7 @@ module _ {St X Fn F Q : Type 0} (stream : StreamOf St X) (closure : Mut Fn (X ×
 
   -- what a turn leaves that took this item, by what its poll of the stream returned
   module _ (s : Option St) (left : St) (x : X) (q : Q) (f : Fn) (asks : AsksStream (PollsStream stream.yields) queue.count (queue.room q) (record { stream = s; queue = q }) (Ready (Some x)) left) where
-    pub item_each : (q2 : Q) (f1 : Fn) (made : F) → CanForEach stream closure queue (record { buffer = record { stream = s; queue = q }; closure = f }) → queue.can_poll q2 → Calls closure f x made f1 → stream.can_poll left
+    pub item_each : (q2 : Q) (f1 : Fn) (made : F) → CanForEach stream closure queue (record { buffer = record { stream = s; queue = q }; closure = f }) → queue.as_stream.can_poll q2 → Calls closure f x made f1 → stream.can_poll left
         → CanForEach stream closure queue (record { buffer = record { stream = Some left; queue = q2 }; closure = f1 })
     item_each q2 f1 made can again called next =
         let was : CanForEach stream closure queue (record { buffer = record { stream = Some asks.stream; queue = q }; closure = f }) = rw asks.not_ended at can in
@@ -35,23 +35,20 @@ module _ {St X Fn F Q : Type 0} (stream : StreamOf St X) (closure : Mut Fn (X ×
     each_fit can = (rw asks.not_ended at can.to_come).at [] f x asks.answers.value refl
 
   module _ (limit : Q → ℕ) where
-    abbrev AsStream : StreamOf Q (Unit {0})
-    AsStream = stream_of queue.can_poll queue.needs queue.yields
-
     abbrev PollsQueue : Q → Poll (Option (Unit {0})) → Q → Context → Context → Type 0
-    PollsQueue = PollsFutureQueue queue.polls queue.count queue.room AsStream
+    PollsQueue = PollsFutureQueue queue.polls queue.count queue.room queue.as_stream
 
     -- what a turn leaves, and where its task is registered, by its result
     by_result : (old new : ForEach St Fn Q) (s : Option St) (q left : Q) (drew : Bool) (answer : Poll (Option (Unit {0}))) (cx before after : Context) → PollsQueue q answer left before after → (drew ≡ false → queue.count q < queue.room q → IfSome s (λ t. Covers before (stream.needs t)))
         → TurnLeaves (for_each_of stream closure queue limit) old Pending new cx after → (answer ≡ Ready None → s ≡ None → TurnLeaves (for_each_of stream closure queue limit) old (Ready tt) new cx after)
         → TurnLeaves (for_each_of stream closure queue limit) old (so_far (turn_answer drew answer (is_some s))) new cx after
-        × IfSome (turn_answer drew answer (is_some s)) (λ result. OnPending result (Covers after (WaitsAt stream.needs queue.needs queue.count queue.room (record { stream = s; queue = left }))))
+        × IfSome (turn_answer drew answer (is_some s)) (λ result. OnPending result (Covers after (WaitsAt stream.needs queue.as_stream.needs queue.count queue.room (record { stream = s; queue = left }))))
     by_result old new s q left true answer cx before after polled covered goes over = (goes, tt)
-    by_result old new s q left false Pending cx before after polled covered goes over = (goes, waits_pending stream.needs AsStream queue.count queue.room s q left before after (covered refl) polled)
+    by_result old new s q left false Pending cx before after polled covered goes over = (goes, waits_pending stream.needs queue.as_stream queue.count queue.room s q left before after (covered refl) polled)
     by_result old new s q left false (Ready (Some x)) cx before after polled covered goes over = (goes, tt)
     by_result old new None q left false (Ready None) cx before after polled covered goes over = (over refl refl, tt)
     by_result old new (Some t) q left false (Ready None) cx before after polled covered goes over =
-        (goes, waits_empty stream.needs AsStream queue.count queue.room (Some t) q left before after (covered refl) (λ covers. covers.0) polled)
+        (goes, waits_empty stream.needs queue.as_stream queue.count queue.room (Some t) q left before after (covered refl) (λ covers. covers.0) polled)
 
     pub turn_of : (old mid : ForEach St Fn Q) (s : Option St) (q left : Q) (f : Fn) (drew : Option X) (b : Bool) (answer : Poll (Option (Unit {0}))) (result : Option (Poll (Unit {0}))) (cx before after : Context) → mid ≡ record { buffer = record { stream = s; queue = q }; closure = f } → is_some drew ≡ b
         → DrawsOnce stream closure queue old drew mid → CanForEach stream closure queue mid → (MayEnd stream mid → MayEnd stream old) → queue.room mid.buffer.queue ≡ queue.room old.buffer.queue → limit mid.buffer.queue ≡ limit old.buffer.queue
@@ -63,7 +60,7 @@ module _ {St X Fn F Q : Type 0} (stream : StreamOf St X) (closure : Mut Fn (X ×
         let room : queue.room q ≡ queue.room old.buffer.queue = rw is at room_mid in
         let limits : limit left ≡ limit old.buffer.queue = same_limit ∙ rw is at limit_mid in
         let kept : Keeps cx after = λ fact h. polled.as_stream.kept fact (task.kept fact h) in
-        let held = polled_can AsStream q left answer before after again.held polled in
+        let held = polled_can queue.as_stream q left answer before after again.held polled in
         let result = by_result old (record { buffer = record { stream = s; queue = left }; closure = f }) s q left b answer cx before after polled (rw is at task.covered)
         (record { value = tt; ended = tt; same = λ _ h. same h; again = record { next = again.next; to_come = again.to_come; held = held }; limit = limits; kept = kept })
         (λ empty none. let counts = rw empty at polled.counts in record { value = same (rw none ([], (refl, refl))); ended = (none, rw counts.1 counts.0); same = tt; again = tt; limit = limits; kept = kept }) in

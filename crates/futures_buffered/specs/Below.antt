@@ -17,4 +17,4 @@ pub use Rattle.futures_buffered_ordered.specs.FuturesOrderedBounded.{SetGives, S
 pub use Rattle.futures_buffered_unordered.specs.FuturesUnorderedBounded.{Bounded, HoldsEach, IsNewSet, IsWoken, Pushes}
 pub use Rattle.futures_buffered_unordered.specs.FuturesUnorderedBounded.{held_in, slots_in}
 pub use Rattle.futures_buffered_unordered.specs.PollsBounded.{PollsBounded, itself}
-pub use Rattle.futures_buffered_unordered.specs.StreamAnswers.{OfSomeTask, StreamAnswers, stream_of}
+pub use Rattle.futures_buffered_unordered.specs.StreamAnswers.{OfSomeTask, StreamAnswers, StreamOf}

@@ -167,9 +167,9 @@ module _ {St X A Q : Type 0} (yields : St → Runs X) (item_gives : X → A → 
 -- the ghost members of a buffer as a stream
 abbrev pub buffer_of : {St X A Q : Type 0} → StreamOf St X → FutureQueueOf Q X A → StreamOf (Buffering St Q) A
 buffer_of stream queue = record {
-  can_poll = CanDraw stream.can_poll stream.yields queue.is_fit queue.can_poll;
-  needs = WaitsAt stream.needs queue.needs queue.count queue.room;
-  yields = BufferGives stream.yields queue.gives queue.count queue.yields queue.in_order;
+  can_poll = CanDraw stream.can_poll stream.yields queue.is_fit queue.as_stream.can_poll;
+  needs = WaitsAt stream.needs queue.as_stream.needs queue.count queue.room;
+  yields = BufferGives stream.yields queue.gives queue.count queue.as_stream.yields queue.in_order;
 }
 
 -- One call, which takes a buffer from `old` to `new` and the task from `cx` to `left`. A clause gives stream and queue

@@ -1,8 +1,7 @@
 //! Some futures of a stream at a time, whose outputs come in the order of the items.
-ghost use Rattle.futures_buffered.specs.Below.{EachRunning, IsNewBoundedQueue, PollsOrderedBounded, PushesNumber};
-ghost use Rattle.futures_buffered.specs.Below.{SetMayGive, held_in, itself};
-ghost use Rattle.std.specs.Prelude.{◌<◌, true};
-ghost use Rattle.futures_buffered_ordered.specs.OrderedEntries.{AddsBack, ComesInOrder};
+ghost use Rattle.futures_buffered.specs.Below.{IsNewBoundedQueue, PollsOrderedBounded, PushesNumber, itself};
+ghost use Rattle.std.specs.Prelude.{true};
+ghost use Rattle.futures_buffered_ordered.specs.OrderedEntries.{AddsBack};
 ghost use Rattle.futures_buffered.specs.FutureQueue.{OnlyPushes};
 ghost use Rattle.futures_buffered.specs.BufferUnordered.{MayGiveInSlot};
 ghost use Rattle.futures_buffered.specs.BufferedOrdered.{GivesInOrder, queue_len, queue_slots};
@@ -67,15 +66,11 @@ impl<F: SlotFuture<S::Waker, Output = A>, A: Drop, S: ReadySource> FutureQueue<F
 
     ghost is_fit = { F.can_poll };
 
-    ghost can_poll = { λ queue. EachRunning F.can_poll queue.set };
-
     ghost gives = { MayGiveInSlot F.polled };
 
-    ghost yields = { ComesInOrder (SetMayGive F.polled) };
+    ghost as_stream = { ⟦<BoundedQueue<F, A, S> as Stream>⟧ };
 
     ghost in_order = { true };
-
-    ghost needs = { λ queue place. (0 < held_in queue.set) × S.needs queue.set.source place };
 
     fn len(&self) -> usize {
         self.queue.len()

@@ -62,15 +62,11 @@ where
 
     ghost is_fit = { λ item. IfOk item Q.is_fit };
 
-    ghost can_poll = { Q.can_poll };
-
     ghost gives = { TryItemGives Q.gives };
 
-    ghost yields = { Q.yields };
+    ghost as_stream = { Q.as_stream };
 
     ghost in_order = { false };
-
-    ghost needs = { Q.needs };
 
     fn len(&self) -> usize {
         self.queue.len()
