@@ -2,11 +2,13 @@
 use Rattle.std.proofs.Common.{◌≡◌, ◌≢◌, ℕ, zero, suc, ◌+◌, ◌≤◌, Bool, List, [], ◌∷◌, ◌++◌, set, Option, Some, None, Result, MatchOption, cond, count_by, refl, sym, ap, subst, inl, inr, ◌∙◌, append-nil, append_assoc, length, arith}
 use Rattle.futures_buffered.proofs.Common.{option_to_list, FoldsTo, AllZip, slice_get, get_or-set_other, sum_by-cons, sum_by_push, cases_eq, eq-eqb, Poll, Ready, Pending, Slots, value_in, with_value, with_slot_freed, Inserts, Woke, Passes, Yields, held_in, PollOneOf, itself, apart, value_in-with_value, value_inserted, value_inserted_other, value_in-with_slot_freed_other, PollsNumbered, held_with, one_at, AddsBack, Entry, IsUnused, Kept, LastStep, OrderedGives, Running, SetYields, runs_with, OrderedBounded, PushesNumber, SetGives, Numbered, count-names, in_slots, none_held, numbers_inserted, numbers_polled, unused_none, ReadySourceOf, SlotFutureOf, OnlyPushes, StreamOf, Accounts, PollsStream, output_given, PendsTo, MayGiveInSlot, BecomesEntry, GivesInOrder, TryGivesInOrder, queue_len, PushesOk, same_Some}
 use Rattle.std.proofs.lemmas.Bool.Decides.{eqb_tells}
+use Rattle.std.proofs.lemmas.List.{nil_from_length}
+use Rattle.std.proofs.lemmas.Slice.Zip.{all_zipped_more}
 use Rattle.futures_buffered_ordered.proofs.OrderedEntriesInvariantLemmas.{runs-set}
 use Rattle.futures_buffered.proofs.BufferAccountLemmas.{many_calls}
 use Rattle.futures_buffered.proofs.TryBufferAccountLemmas.{AmongErrors, error_handed, ok_drew, queue_gave}
 use Rattle.futures_buffered.proofs.BufferedOrderedLemmas.{one_slot}
-use Rattle.futures_buffered.proofs.BufferUnorderedAccountLemmas.{waits_more, zip_push}
+use Rattle.futures_buffered.proofs.BufferUnorderedAccountLemmas.{passes_keep, waits_more}
 
 running_same : {A : Type 0} {i j : ℕ} → ◌≡◌ {A = Option (Entry A)} (Some (Running i)) (Some (Running j)) → i ≡ j
 running_same e = cc
@@ -52,7 +54,7 @@ module _ {F A : Type 0} (polled : ℕ → F → Poll A → F → Type 0) where
   pushed_on m w s put into (Running j) f came = (came.0, came.1, value_inserted_other m w s put into came.0 (apart m w s put into came.0 _ came.2) ∙ came.2, came.3)
   pushed_on m w s put into (Kept x) f came = came
 
-  -- a name was passed
+  -- a future was pending
   pending_on : (m : Slots (Numbered F)) (s : ℕ) (g left : Numbered F) → value_in m s ≡ Some g → PollsNumbered polled s g Pending left → (e : Entry A) (f : F) → BecomesEntry polled m f e → BecomesEntry polled (with_value m s left) f e
   pending_on m s g left held p (Running j) f came =
       elim (cases_eq came.0 s) [
@@ -68,16 +70,9 @@ module _ {F A : Type 0} (polled : ℕ → F → Poll A → F → Type 0) where
           (s, left.future, value_in-with_value m s g left (sym held) ∙ ap (λ (n : ℕ). Some (record { future = left.future; number = n })) number, waits_more (polled s) f came.1 left.future waits pends)
   pending_on m s g left held p (Kept x) f came = came
 
-  passed_on : (m w : Slots (Numbered F)) (s : ℕ) → Passes (PollsNumbered polled) m s w → (e : Entry A) (f : F) → BecomesEntry polled m f e → BecomesEntry polled w f e
-  passed_on m w s = by_value (value_in m s) refl
-    where
-      by_value : (o : Option (Numbered F)) → value_in m s ≡ o → MatchOption o (w ≡ m) (λ g. (left : Numbered F) × PollsNumbered polled s g Pending left × (w ≡ with_value m s left)) → (e : Entry A) (f : F) → BecomesEntry polled m f e → BecomesEntry polled w f e
-      by_value None is h e f came = subst (λ (v : Slots (Numbered F)). BecomesEntry polled v f e) (sym h) came
-      by_value (Some g) is h e f came = subst (λ (v : Slots (Numbered F)). BecomesEntry polled v f e) (sym h.2) (pending_on m s g h.0 is h.1 e f came)
-
-  ran_on : (names : List ℕ) (m w : Slots (Numbered F)) (fs : List F) (es : List (Entry A)) → FoldsTo (Passes (PollsNumbered polled)) m names w → AllZip (BecomesEntry polled m) fs es → AllZip (BecomesEntry polled w) fs es
-  ran_on [] m w fs es passes came = subst (λ (v : Slots (Numbered F)). AllZip (BecomesEntry polled v) fs es) passes came
-  ran_on (s ∷ names) m w fs es passes came = ran_on names passes.0 w fs es passes.2 (came_on m passes.0 fs es (passed_on m passes.0 s passes.1) came)
+  -- a run of names
+  ran_on : (fs : List F) (es : List (Entry A)) (names : List ℕ) (m w : Slots (Numbered F)) → FoldsTo (Passes (PollsNumbered polled)) m names w → AllZip (BecomesEntry polled m) fs es → AllZip (BecomesEntry polled w) fs es
+  ran_on fs es = passes_keep (PollsNumbered polled) (λ m. AllZip (BecomesEntry polled m) fs es) (λ m s g left held pends. came_on m (with_value m s left) fs es (pending_on m s g left held pends))
 
   module _ (m w : Slots (Numbered F)) (s i : ℕ) (x : A) (gave : Yields (PollsNumbered polled) m s (i, x) w) where
     has_number : gave.value.number ≡ i
@@ -142,7 +137,7 @@ module _ {F A S : Type 0} (polled : ℕ → F → Poll A → F → Type 0) where
         all = ap (λ (l : List F). l ++ f ∷ []) so.all ∙ append_assoc so.gone so.kept (f ∷ []);
         gave = so.gave;
         came = subst (λ (l : List (Entry A)). AllZip (BecomesEntry polled new.set.slots) (so.kept ++ f ∷ []) l) (sym added.2)
-            (zip_push (BecomesEntry polled new.set.slots) so.kept old.entries f (Running i)
+            (all_zipped_more (BecomesEntry polled new.set.slots) so.kept old.entries f (Running i)
             (came_on polled old.set.slots new.set.slots so.kept old.entries (pushed_on polled old.set.slots new.set.slots pushed.0 put into) so.came)
             (pushed.0, f, value_inserted old.set.slots new.set.slots pushed.0 put into, ([], refl)));
         once = λ n. rw added.2 (one_pushed n i old.entries (so.once n) added.1.unused);
@@ -158,7 +153,7 @@ module _ {R F W A S : Type 0} (rule : PollOneOf R F W A) (source : ReadySourceOf
       let (cx, after, poll) = h.gave in
       let (s, left, asks, emptied) = poll.gave.1 in
       let takes = asks.takes in
-      let ran = ran_on rule.polled takes.names old.set.slots takes.passed so.kept old.entries takes.passes so.came in
+      let ran = ran_on rule.polled so.kept old.entries takes.names old.set.slots takes.passed takes.passes so.came in
       let one : in_slots i takes.passed ≤ 1 = omega (arith, count-names i rule.polled takes.names old.set.slots takes.passed takes.passes, so.as_many i, so.once i) in
       let done = finished_on rule.polled takes.passed left.slots s i x takes.ends.2 one h.at so.kept old.entries (so.once i) h.was_running ran in
       record {
@@ -187,7 +182,7 @@ module _ {R F W A S : Type 0} (rule : PollOneOf R F W A) (source : ReadySourceOf
             gone = so.gone ++ f ∷ [];
             kept = fs;
             all = all ∙ sym (append_assoc so.gone (f ∷ []) fs);
-            gave = zip_push (MayGiveInSlot rule.polled) so.gone outputs f x so.gave came.0;
+            gave = all_zipped_more (MayGiveInSlot rule.polled) so.gone outputs f x so.gave came.0;
             came = rw same came.1;
             once = λ n. subst (λ (l : List (Entry A)). count_by (runs_with n) l ≤ 1) front (so.once n);
             as_many = λ n. rw same (so.as_many n ∙ ap (λ (l : List (Entry A)). count_by (runs_with n) l) front);
@@ -211,18 +206,14 @@ module _ {R F W A S : Type 0} (rule : PollOneOf R F W A) (source : ReadySourceOf
             kept = then.kept;
             all = then.all;
             gave = then.gave;
-            came = rw (step.2, takes.ends.0) (ran_on rule.polled takes.names h.before.set.slots takes.passed then.kept h.before.entries takes.passes then.came);
+            came = rw (step.2, takes.ends.0) (ran_on rule.polled then.kept h.before.entries takes.names h.before.set.slots takes.passed takes.passes then.came);
             once = λ n. rw step.2 (then.once n);
             as_many = λ n. omega (arith, then.as_many n, numbers_polled n rule source h.before.set new.set Pending cx after poll, ap (λ (l : List (Entry A)). count_by (runs_with n) l) step.2);
           })
 
-pub nil_of : {X : Type 0} (xs : List X) → length xs ≡ 0 → xs ≡ []
-nil_of [] none = refl
-nil_of (x ∷ xs) none = absurd (omega (arith, none))
-
 start : {F A S : Type 0} (polled : ℕ → F → Poll A → F → Type 0) (queue : OrderedBounded F A S) → queue_len queue ≡ 0 → held_in queue.set ≡ 0 → SoFar polled [] [] queue
 start polled queue empty none_in =
-    let none = nil_of queue.entries empty in
+    let none = nil_from_length queue.entries empty in
     record { gone = []; kept = []; all = refl; gave = tt; came = rw none tt; once = λ i. rw none (omega arith); as_many = λ i. rw none (none_held i queue.set.slots none_in) }
 
 account : {F A S : Type 0} (polled : ℕ → F → Poll A → F → Type 0) (drawn : List F) (outputs : List A) (queue : OrderedBounded F A S) → SoFar polled drawn outputs queue → Accounts (λ drawn items. drawn ≡ items) (MayGiveInSlot polled) (BecomesEntry polled queue.set.slots) drawn outputs queue.entries

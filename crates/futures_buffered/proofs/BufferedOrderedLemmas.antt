@@ -1,21 +1,18 @@
 -- What a push, and one poll, leave of an ordered queue as what a buffer holds.
-use Rattle.std.proofs.Common.{◌≡◌, ◌⊎◌, ℕ, ◌≤◌, List, [], ◌∷◌, length, Option, Some, None, ◌<◌, true, refl, sym, ap, subst, inl, inr, arith, ◌∙◌, set, get_or, map, cond, Bool, IsSome}
-use Rattle.futures_buffered.proofs.Common.{FoldsTo, sum_by, cases_eq, eq-eqb, get_or-set_other, get_or-le-sum_by, sum_by-set, Covers, Context, Poll, Ready, Pending, OnPending, Slots, value_in, Woke, MayGive, held_in, AllHeld-push, value_inserted, value_inserted_other, CanPollFuture, PollsNumbered, held_with, AddsBack, ComesInOrder, EachHasOne, Entry, OrderedGives, starts_running, EachRunning, OrderedBounded, PollsOrderedBounded, PushesNumber, SetGives, SetMayGive, ReadySourceOf, PollOneOf, Numbered, in_slot, in_slots, comes_behind, no_more_of, unused_none, AddsOutput, MayGiveInSlot, queue_len, queue_slots, same_Some}
-use Rattle.futures_buffered_core.proofs.SlotMapLemmas.{value_within}
+use Rattle.std.proofs.Common.{◌≡◌, ◌⊎◌, ℕ, ◌≤◌, List, [], ◌∷◌, length, Option, Some, None, ◌<◌, true, refl, sym, ap, subst, inl, inr, arith, ◌∙◌, map, cond, Bool}
+use Rattle.futures_buffered.proofs.Common.{FoldsTo, sum_by, cases_eq, eq-eqb, get_or-le-sum_by, sum_by-set, Context, Poll, Ready, Pending, Slots, value_in, with_slot_freed, value_in-with_slot_freed_other, Woke, MayGive, held_in, AllHeld-push, CanPollFuture, PollsNumbered, held_with, AddsBack, ComesInOrder, EachHasOne, Entry, OrderedGives, starts_running, EachRunning, OrderedBounded, PollsOrderedBounded, PushesNumber, SetGives, SetMayGive, ReadySourceOf, PollOneOf, Numbered, in_slot, in_slots, as_many_of, comes_behind, empty_of, fewer_of, no_more_of, unused_none, stream_of, LeavesHeld, PollsFutureQueue, PushAddsOutput, MayGiveInSlot, queue_len, queue_slots, same_Some}
+use Rattle.futures_buffered_ordered.proofs.FuturesOrderedBoundedLemmas.{queue_gives_of}
+use Rattle.futures_buffered_ordered.proofs.OrderedStreamLemmas.{bounded_answers}
+use Rattle.futures_buffered_unordered.proofs.HeldLemmas.{held_within}
+use Rattle.futures_buffered.proofs.BufferUnorderedLemmas.{held-inserts}
 
 module _ {F : Type 0} (i : ℕ) where
   one_here : (o : Option (Numbered F)) (f : Numbered F) → o ≡ Some f → f.number ≡ i → in_slot i o ≡ 1
   one_here o f e is = rw (e, is) (ap (λ (b : Bool). cond b 1 0) (eq-eqb i i refl))
 
-  below : (places : List (Option (Numbered F))) (s : ℕ) (f : Numbered F) → get_or places s None ≡ Some f → s < length places
-  below places s f e = value_within places s (subst IsSome (sym e) refl)
-
-  counts_place : (places : List (Option (Numbered F))) (s : ℕ) (f : Numbered F) → get_or places s None ≡ Some f → f.number ≡ i → 0 < sum_by (in_slot i) places
-  counts_place places s f e is = omega (arith, one_here (get_or places s None) f e is, get_or-le-sum_by (in_slot i) places s None (below places s f e))
-
   -- a slot that holds a future with this number counts
   counts_one : (m : Slots (Numbered F)) (s : ℕ) (f : Numbered F) → value_in m s ≡ Some f → f.number ≡ i → 0 < in_slots i m
-  counts_one m s f e is = counts_place m.places s f e is
+  counts_one m s f e is = omega (arith, one_here (value_in m s) f e is, get_or-le-sum_by (in_slot i) m.places s None (held_within m s f (sym e)))
 
   -- and it is the only one where there is one at most
   pub one_slot : (m : Slots (Numbered F)) (s t : ℕ) (f g : Numbered F) → value_in m s ≡ Some f → f.number ≡ i → value_in m t ≡ Some g → g.number ≡ i → in_slots i m ≤ 1 → t ≡ s
@@ -23,9 +20,9 @@ module _ {F : Type 0} (i : ℕ) where
       elim (cases_eq t s) [
         | inl same ↦ same
         | inr other ↦
-            let own : in_slot i (get_or m.places s None) ≡ 1 = one_here (get_or m.places s None) f here is in
-            let without = sum_by-set (in_slot i) m.places s None None (below m.places s f here) in
-            let left = counts_place (set m.places s None) t g (get_or-set_other m.places s t None None other ∙ there) also in
+            let own : in_slot i (value_in m s) ≡ 1 = one_here (value_in m s) f here is in
+            let without = sum_by-set (in_slot i) m.places s None None (held_within m s f (sym here)) in
+            let left = counts_one (with_slot_freed m s) t g (value_in-with_slot_freed_other m s t other ∙ there) also in
             absurd (omega (arith, own, without, left, one))
       ]
 
@@ -50,24 +47,12 @@ module _ {F A S : Type 0} (polled : ℕ → F → Poll A → F → Type 0) (mark
   abbrev put : Numbered F
   put = record { future = item; number = added.0 }
 
-  abbrev slot : ℕ
-  slot = added.1.pushed.0
-
-  -- what a slot holds now it held before, or it holds the item
-  now_or_before : (s : ℕ) (f : Numbered F) → value_in new.set.slots s ≡ Some f → ((s ≡ slot) × (f ≡ put)) ⊎ (value_in old.set.slots s ≡ Some f)
-  now_or_before s f found =
-      let into = added.1.pushed.1.inserted in
-      elim (cases_eq s slot) [
-        | inl same ↦ inl (same, same_Some _ _ (sym found ∙ (ap (λ (n : ℕ). value_in new.set.slots n) same ∙ value_inserted old.set.slots new.set.slots slot put into)))
-        | inr other ↦ inr (sym (value_inserted_other old.set.slots new.set.slots slot put into s other) ∙ found)
-      ]
-
   -- an output that the set may give it might have given before, or it is one of the item, with its number
   more : (out : ℕ × A) → SetMayGive polled new.set out → SetMayGive polled old.set out ⊎ ((out.0 ≡ number) × MayGiveInSlot polled item out.1)
   more (i, y) h =
       let may = may_number polled h.0 h.1 i y h.3 in
-      elim (now_or_before h.0 h.1 h.2) [
-        | inl here ↦ inr (sym may.0 ∙ ap (λ (n : Numbered F). n.number) here.1, (h.0, subst (λ (n : Numbered F). MayGive (polled h.0) n.future y) here.1 may.1))
+      elim (held-inserts old.set.slots new.set.slots added.1.pushed.0 h.0 put h.1 added.1.pushed.1.inserted h.2) [
+        | inl is ↦ inr (sym may.0 ∙ ap (λ (n : Numbered F). n.number) is, (h.0, subst (λ (n : Numbered F). MayGive (polled h.0) n.future y) is may.1))
         | inr before ↦ inl (h.0, h.1, before, h.3)
       ]
 
@@ -77,8 +62,8 @@ module _ {F A S : Type 0} (polled : ℕ → F → Poll A → F → Type 0) (mark
       absurd (omega (arith, one, each.as_many number, unused_none number old.entries added.1.unused))
 
   -- so one output more comes, behind all others
-  pub adds_behind : AddsOutput true (ComesInOrder (SetMayGive polled) old) (MayGiveInSlot polled item) (ComesInOrder (SetMayGive polled) new)
-  adds_behind = comes_behind (SetMayGive polled) (MayGiveInSlot polled) (PushesNumber marks) old new item added more none
+  pub push_adds : PushAddsOutput true (ComesInOrder (SetMayGive polled)) (MayGiveInSlot polled item) old None new
+  push_adds = record { adds = comes_behind (SetMayGive polled) (MayGiveInSlot polled) (PushesNumber marks) old new item added more none; value = tt; overtakes = tt }
 
 -- each future may be polled, where those held and the new one may be
 pub pushed_can : {F A S : Type 0} (marks : S → ℕ → Woke → S → Type 0) (can_poll : F → Type 0) (old new : OrderedBounded F A S) (item : F) → AddsBack (PushesNumber marks) old item new → EachRunning can_poll old.set → can_poll item → EachRunning can_poll new.set
@@ -89,20 +74,31 @@ pub starts_some : {A : Type 0} (es : List (Entry A)) → starts_running es ≡ t
 starts_some [] e = cc
 starts_some (x ∷ xs) e = omega arith
 
-module _ {R F W A S : Type 0} (rule : PollOneOf R F W A) (source : ReadySourceOf S W) where
-  -- the queue holds no more than it has slots
-  pub still_fits : (old new : OrderedBounded F A S) (answer : Poll (Option A)) → OrderedGives (SetGives rule source) held_in old answer new → queue_slots new ≡ queue_slots old → (0 < queue_slots old) × (queue_len old ≤ queue_slots old) → (0 < queue_slots new) × (queue_len new ≤ queue_slots new)
-  still_fits old new answer h same fits =
-      let some = fits.0 in
-      let most = fits.1 in
-      let fewer = no_more_of (SetGives rule source) held_in old new answer h in
-      (omega (arith, same, some), omega (arith, same, most, fewer))
+module _ {R F W A S : Type 0} (rule : PollOneOf R F W A) (source : ReadySourceOf S W) (old new : OrderedBounded F A S) where
+  queue_counts : (answer : Poll (Option A)) → OrderedGives (SetGives rule source) held_in old answer new → LeavesHeld queue_len old answer new
+  queue_counts (Ready None) h = empty_of (SetGives rule source) held_in old new (Ready None) h
+  queue_counts (Ready (Some x)) h = fewer_of (SetGives rule source) held_in old new (Ready (Some x)) h
+  queue_counts Pending h =
+      (as_many_of (SetGives rule source) held_in old new Pending h, subst (λ (es : List (Entry A)). 0 < length es) (sym h.last_step.2) (starts_some h.before.entries h.last_step.0))
 
-  pub pending_holds : (old new : OrderedBounded F A S) (answer : Poll (Option A)) → OrderedGives (SetGives rule source) held_in old answer new → OnPending answer (0 < queue_len new)
-  pending_holds old new (Ready o) h = tt
-  pending_holds old new Pending h = subst (λ (es : List (Entry A)). 0 < length es) (sym h.last_step.2) (starts_some h.before.entries h.last_step.0)
+  module _ (answer : Poll (Option A)) (cx left : Context) (fits : (0 < queue_slots old) × (queue_len old ≤ queue_slots old)) (poll : PollsOrderedBounded rule source old answer new cx left) where
+    gives : OrderedGives (SetGives rule source) held_in old answer new
+    gives = queue_gives_of rule source old new answer cx left poll
 
--- the task of a pending queue hears of the source of its set
-pub waits_covered : {R F W A S : Type 0} (rule : PollOneOf R F W A) (source : ReadySourceOf S W) (old new : OrderedBounded F A S) (answer : Poll (Option A)) (cx left : Context) → PollsOrderedBounded rule source old answer new cx left → OnPending answer (Covers left (source.needs new.set.source))
-waits_covered rule source old new (Ready x) cx left h = tt
-waits_covered rule source old new Pending cx left h = h.gave.last_step.1.covered
+    -- the queue holds no more than it has slots
+    pub still_fits : (0 < queue_slots new) × (queue_len new ≤ queue_slots new)
+    still_fits =
+        let same = poll.queue.set.capacity in
+        (omega (arith, same, fits.0), omega (arith, same, fits.1, no_more_of (SetGives rule source) held_in old new answer gives))
+
+    -- a poll of the queue is one of what a buffer holds
+    pub polls_queue : PollsFutureQueue (PollsOrderedBounded rule source) queue_len queue_slots (stream_of (λ queue. EachRunning rule.can_poll queue.set) (λ queue place. (0 < held_in queue.set) × source.needs queue.set.source place) (ComesInOrder (SetMayGive rule.polled))) old answer new cx left
+    polls_queue =
+        record {
+          polled = poll;
+          counts = queue_counts answer gives;
+          same_room = poll.queue.set.capacity;
+          some = still_fits.0;
+          bound = still_fits.1;
+          as_stream = bounded_answers rule source old new answer cx left poll;
+        }

@@ -9,7 +9,7 @@ pub use Rattle.std.specs.List.{AllZip, FoldsTo, slice_get, sum_by}
 pub use Rattle.std.specs.Option.{option_to_list}
 pub use Rattle.std.specs.Prelude.{IsPermutation, ⊤}
 pub use Rattle.futures.specs.Poll.{IfReady, OnPending}
-pub use Rattle.futures.specs.Runs.{After, Calls, Chains, Ends, Leads, Resolves, Runs, Turns, Within, firsts, seconds}
+pub use Rattle.futures.specs.Runs.{After, AllItems, Calls, Chains, Ends, Leads, Resolves, Runs, Turns, Within, firsts, seconds}
 pub use Rattle.futures.specs.Task.{Covers, Hears, Keeps, Lasting}
 pub use Rattle.futures.specs.declared.task.Poll.{Poll}
 pub use Rattle.futures.specs.declared.task.Poll.TheVariants.{Pending, Ready}
@@ -25,15 +25,15 @@ pub use Rattle.futures_buffered_ordered.specs.declared.numbered.Numbered.{Number
 pub use Rattle.futures_buffered_table.specs.declared.answer.Woke.{Woke}
 pub use Rattle.futures_buffered_unordered.proofs.HeldGivesLemmas.{Gathers-After, Gathers-Within, value_in-with_slot_freed_other}
 pub use Rattle.futures_buffered_unordered.proofs.HeldLemmas.{AllHeld-push, apart, value_in-with_value, value_inserted, value_inserted_other}
-pub use Rattle.futures_buffered_unordered.specs.FuturesUnorderedBounded.{Bounded, HoldsEach, IsWoken, Pushes, held_in}
+pub use Rattle.futures_buffered_unordered.specs.FuturesUnorderedBounded.{Bounded, HoldsEach, IsWoken, Pushes, held_in, slots_in}
 pub use Rattle.futures_buffered_unordered.specs.Held.{AllHeld, ComesFrom, MayGive, Passes, Yields}
 pub use Rattle.futures_buffered_unordered.specs.PollsBounded.{PollsBounded, itself}
 pub use Rattle.futures_buffered_unordered.specs.StreamAnswers.{OfSomeTask, StreamAnswers, stream_of}
 pub use Rattle.futures_buffered_unordered.specs.declared.poll_one.PollOne.{Ghosts as PollOneOf}
 pub use Rattle.futures_buffered_unordered.specs.declared.slot_future.SlotFuture.{Ghosts as SlotFutureOf}
-pub use Rattle.futures_buffered.specs.Buffer.{Accounts, Ahead, AsksStream, BufferGives, Buffering, CallEnds, CallsInTurn, CanDraw, DrawingLeavesTask, DrawsBuffer, DrawsItem, DrawsLast, DrawsNone, DrawsTask, FillsBuffer, FutureQueueOf, HasNoTurn, LeavesBuffer, OneComes, PollsBuffer, PollsStream, StreamOf, WaitsAt, all_drawn, all_outputs, answer_from, buffer_of, output_given}
+pub use Rattle.futures_buffered.specs.Buffer.{Accounts, Ahead, AsksStream, BufferGives, Buffering, CallEnds, CallsInTurn, DrawsItem, DrawsLast, DrawsNone, DrawsTask, FillsBuffer, Follows, FutureQueueOf, HasNoTurn, OneComes, PollsBuffer, PollsStream, StreamOf, WaitsAt, all_drawn, all_outputs, answer_from, buffer_of, output_given}
 pub use Rattle.futures_buffered.specs.BufferUnordered.{LosesNothing, MayGiveInSlot, PendsTo, TryLosesNothing, WaitsInSlot, held_values}
 pub use Rattle.futures_buffered.specs.BufferedOrdered.{BecomesEntry, GivesInOrder, TryGivesInOrder, queue_len, queue_slots}
-pub use Rattle.futures_buffered.specs.FutureQueue.{AddsOutput, MayCome, OnlyPushes, PollsFutureQueue, PushAddsOutput, PushLeavesQueue}
+pub use Rattle.futures_buffered.specs.FutureQueue.{AddsOutput, LeavesHeld, MayCome, OnlyPushes, PollsFutureQueue, PushAddsOutput, PushLeavesQueue}
 pub use Rattle.futures_buffered.specs.TryBuffer.{PushesOk, TryItemGives, WithErrors, futures_of}
 pub use Rattle.futures_buffered.specs.Turns.{PollsInTurns, TakesTurn, TurnLeaves, TurnsOf, so_far}

@@ -1,10 +1,11 @@
 -- What one turn of a for-each leaves.
 use Rattle.std.proofs.Common.{◌≡◌, ◌⊎◌, is_some, ℕ, ◌<◌, ◌≤◌, [], ◌∷◌, Option, Some, None, Bool, true, false, refl, inl, inr, arith, length, ◌∙◌, IfSome}
-use Rattle.futures_buffered.proofs.Common.{chained_keeps, Covers, Keeps, OnPending, Context, Poll, Ready, Pending, Calls, firsts, IsWoken, stream_of, Buffering, DrawsTask, FutureQueueOf, PollsStream, StreamOf, WaitsAt, PollsFutureQueue, PushLeavesQueue, PollsInTurns, TakesTurn, TurnLeaves, so_far, DrawsNone, AsksStream}
+use Rattle.futures_buffered.proofs.Common.{chained_keeps, Covers, Keeps, OnPending, Context, Poll, Ready, Pending, Calls, firsts, IsWoken, Buffering, DrawsTask, FutureQueueOf, PollsStream, StreamOf, WaitsAt, PollsFutureQueue, PushLeavesQueue, Ahead, PollsInTurns, TakesTurn, TurnLeaves, so_far, DrawsNone, AsksStream}
 use Rattle.std.specs.Fn.{Mut}
 use Rattle.futures_buffered.specs.ForEachConcurrent.{ForEach, TurnGives, DrawsOnce, turn_answer, CanForEach, MayEnd, for_each_of}
 use Rattle.futures_buffered.proofs.TurnsLemmas.{GoesOn}
-use Rattle.futures_buffered.proofs.BufferLemmas.{pending_covers, empty_covers}
+use Rattle.futures.proofs.RunLemmas.{AtEachItem-Within}
+use Rattle.futures_buffered.proofs.BufferLemmas.{none_drawn, polled_can, waits_empty, waits_pending}
 
 -- a push does not change the limit, also if it returns an answer
 pub push_limit : {F A Q : Type 0} (count room limit : Q → ℕ) (pushes : Q → F → Option A → Q → Type 0) (old : Q) (item : F) (given : Option A) (new : Q) → (pushes old item None new → limit new ≡ limit old) → pushes old item given new → PushLeavesQueue count room old given new → limit new ≡ limit old
@@ -15,22 +16,13 @@ module _ {St X Fn F Q : Type 0} (stream : StreamOf St X) (closure : Mut Fn (X ×
   -- what the first part of a turn leaves that took no item
   pub none_each : (b new : Buffering St Q) (f : Fn) → DrawsNone (PollsStream stream.yields) queue.count (queue.room b.queue) b new → IfSome new.stream stream.can_poll → CanForEach stream closure queue (record { buffer = b; closure = f })
       → CanForEach stream closure queue (record { buffer = new; closure = f }) × (MayEnd stream (record { buffer = new; closure = f }) → MayEnd stream (record { buffer = b; closure = f }))
-  none_each b new f (inl h) next can = rw h.1 (can, λ ends. ends)
-  none_each b new f (inr (inl (left, asks, is))) next can =
-      let was : CanForEach stream closure queue (record { buffer = record { stream = Some asks.stream; queue = b.queue }; closure = f }) = rw asks.not_ended at can in
-      rw (is, asks.not_ended) (
-        record { next = rw is at next; to_come = record { at = λ ps g y h t. was.to_come.at ps g y (asks.answers.same (firsts ps) (Some y) h) t }; held = was.held },
-        λ ends. (ends.0, asks.answers.same ends.0 None ends.1),
-      )
-  none_each b new f (inr (inr (left, asks, is))) next can =
-      rw (is, asks.not_ended) (
-        record { next = tt; to_come = record { at = λ ps g y h t. let never = h.1 in cc }; held = can.held },
-        λ _. ([], asks.answers.value),
-      )
+  none_each b new f drew next can =
+      let (same, less) = none_drawn stream.yields queue.count (queue.room b.queue) b new drew in
+      (record { next = next; to_come = AtEachItem-Within (Calls closure) (Ahead stream.yields b.stream) (Ahead stream.yields new.stream) f _ can.to_come less; held = rw same can.held }, λ ends. (ends.0, less ends.0 None ends.1))
 
   -- what a turn leaves that took this item, by what its poll of the stream returned
   module _ (s : Option St) (left : St) (x : X) (q : Q) (f : Fn) (asks : AsksStream (PollsStream stream.yields) queue.count (queue.room q) (record { stream = s; queue = q }) (Ready (Some x)) left) where
-    pub item_each : (q2 : Q) (f1 : Fn) (made : F) → CanForEach stream closure queue (record { buffer = record { stream = s; queue = q }; closure = f }) → queue.can_poll q2 → Calls closure f x made f1 → stream.can_poll left
+    pub item_each : (q2 : Q) (f1 : Fn) (made : F) → CanForEach stream closure queue (record { buffer = record { stream = s; queue = q }; closure = f }) → queue.as_stream.can_poll q2 → Calls closure f x made f1 → stream.can_poll left
         → CanForEach stream closure queue (record { buffer = record { stream = Some left; queue = q2 }; closure = f1 })
     item_each q2 f1 made can again called next =
         let was : CanForEach stream closure queue (record { buffer = record { stream = Some asks.stream; queue = q }; closure = f }) = rw asks.not_ended at can in
@@ -44,34 +36,19 @@ module _ {St X Fn F Q : Type 0} (stream : StreamOf St X) (closure : Mut Fn (X ×
 
   module _ (limit : Q → ℕ) where
     abbrev PollsQueue : Q → Poll (Option (Unit {0})) → Q → Context → Context → Type 0
-    PollsQueue = PollsFutureQueue queue.polls queue.count queue.room (stream_of queue.can_poll queue.needs queue.yields)
+    PollsQueue = PollsFutureQueue queue.polls queue.count queue.room queue.as_stream
 
-    polled_can : (old new : Q) (answer : Poll (Option (Unit {0}))) (cx left : Context) → queue.can_poll old → PollsQueue old answer new cx left → queue.can_poll new
-    polled_can old new (Ready (Some x)) cx left can polled = polled.as_stream.goes
-    polled_can old new (Ready None) cx left can polled = rw polled.empty.1 can
-    polled_can old new Pending cx left can polled = polled.as_stream.again
-
-    -- a turn that ends a pending poll waits where its draw and its queue wait
-    waits : (b : Buffering St Q) (s : Option St) (q left : Q) (drew : Bool) (answer : Poll (Option (Unit {0}))) (before after : Context) → b ≡ record { stream = s; queue = q } → PollsQueue q answer left before after
-        → (drew ≡ false → queue.count b.queue < queue.room b.queue → IfSome b.stream (λ t. Covers before (stream.needs t)))
-        → IfSome (turn_answer drew answer (is_some s)) (λ result. OnPending result (Covers after (WaitsAt stream.needs queue.needs queue.count queue.room (record { stream = s; queue = left }))))
-    waits b s q left true answer before after is polled covered = tt
-    waits b s q left false Pending before after is polled covered =
-        pending_covers stream.needs queue.needs queue.count queue.room b s q left before after is (covered refl) polled.as_stream.kept polled.same_count polled.same_room polled.as_stream.registered
-    waits b None q left false (Ready None) before after is polled covered = tt
-    waits b (Some t) q left false (Ready None) before after is polled covered =
-        empty_covers stream.needs queue.needs queue.count queue.room b (Some t) q left before after is (covered refl) polled.as_stream.kept polled.empty.0 polled.empty.1 polled.some refl
-    waits b s q left false (Ready (Some x)) before after is polled covered = tt
-
-    -- what a turn leaves, by what it leaves at each result
-    leaves_by : (old new : ForEach St Fn Q) (drew : Bool) (answer : Poll (Option (Unit {0}))) (s : Option St) (cx left : Context)
-        → TurnLeaves (for_each_of stream closure queue limit) old Pending new cx left → (answer ≡ Ready None → s ≡ None → TurnLeaves (for_each_of stream closure queue limit) old (Ready tt) new cx left)
-        → TurnLeaves (for_each_of stream closure queue limit) old (so_far (turn_answer drew answer (is_some s))) new cx left
-    leaves_by old new true answer s cx left goes over = goes
-    leaves_by old new false Pending s cx left goes over = goes
-    leaves_by old new false (Ready (Some x)) s cx left goes over = goes
-    leaves_by old new false (Ready None) None cx left goes over = over refl refl
-    leaves_by old new false (Ready None) (Some t) cx left goes over = goes
+    -- what a turn leaves, and where its task is registered, by its result
+    by_result : (old new : ForEach St Fn Q) (s : Option St) (q left : Q) (drew : Bool) (answer : Poll (Option (Unit {0}))) (cx before after : Context) → PollsQueue q answer left before after → (drew ≡ false → queue.count q < queue.room q → IfSome s (λ t. Covers before (stream.needs t)))
+        → TurnLeaves (for_each_of stream closure queue limit) old Pending new cx after → (answer ≡ Ready None → s ≡ None → TurnLeaves (for_each_of stream closure queue limit) old (Ready tt) new cx after)
+        → TurnLeaves (for_each_of stream closure queue limit) old (so_far (turn_answer drew answer (is_some s))) new cx after
+        × IfSome (turn_answer drew answer (is_some s)) (λ result. OnPending result (Covers after (WaitsAt stream.needs queue.as_stream.needs queue.count queue.room (record { stream = s; queue = left }))))
+    by_result old new s q left true answer cx before after polled covered goes over = (goes, tt)
+    by_result old new s q left false Pending cx before after polled covered goes over = (goes, waits_pending stream.needs queue.as_stream queue.count queue.room s q left before after (covered refl) polled)
+    by_result old new s q left false (Ready (Some x)) cx before after polled covered goes over = (goes, tt)
+    by_result old new None q left false (Ready None) cx before after polled covered goes over = (over refl refl, tt)
+    by_result old new (Some t) q left false (Ready None) cx before after polled covered goes over =
+        (goes, waits_empty stream.needs queue.as_stream queue.count queue.room (Some t) q left before after (covered refl) (λ covers. covers.0) polled)
 
     pub turn_of : (old mid : ForEach St Fn Q) (s : Option St) (q left : Q) (f : Fn) (drew : Option X) (b : Bool) (answer : Poll (Option (Unit {0}))) (result : Option (Poll (Unit {0}))) (cx before after : Context) → mid ≡ record { buffer = record { stream = s; queue = q }; closure = f } → is_some drew ≡ b
         → DrawsOnce stream closure queue old drew mid → CanForEach stream closure queue mid → (MayEnd stream mid → MayEnd stream old) → queue.room mid.buffer.queue ≡ queue.room old.buffer.queue → limit mid.buffer.queue ≡ limit old.buffer.queue
@@ -83,6 +60,10 @@ module _ {St X Fn F Q : Type 0} (stream : StreamOf St X) (closure : Mut Fn (X ×
         let room : queue.room q ≡ queue.room old.buffer.queue = rw is at room_mid in
         let limits : limit left ≡ limit old.buffer.queue = same_limit ∙ rw is at limit_mid in
         let kept : Keeps cx after = λ fact h. polled.as_stream.kept fact (task.kept fact h) in
+        let held = polled_can queue.as_stream q left answer before after again.held polled in
+        let result = by_result old (record { buffer = record { stream = s; queue = left }; closure = f }) s q left b answer cx before after polled (rw is at task.covered)
+        (record { value = tt; ended = tt; same = λ _ h. same h; again = record { next = again.next; to_come = again.to_come; held = held }; limit = limits; kept = kept })
+        (λ empty none. let counts = rw empty at polled.counts in record { value = same (rw none ([], (refl, refl))); ended = (none, rw counts.1 counts.0); same = tt; again = tt; limit = limits; kept = kept }) in
         record {
           turn = record {
             drew = drew;
@@ -99,10 +80,8 @@ module _ {St X Fn F Q : Type 0} (stream : StreamOf St X) (closure : Mut Fn (X ×
             same_room = polled.same_room ∙ room;
             bound = polled.bound;
           };
-          leaves = rw gives (leaves_by old _ b answer s cx after
-              (record { value = tt; ended = tt; same = λ _ h. same h; again = record { next = again.next; to_come = again.to_come; held = polled_can q left answer before after again.held polled }; limit = limits; kept = kept })
-              (λ empty none. let held = rw empty at polled.empty in record { value = same (rw none ([], (refl, refl))); ended = (none, rw held.1 held.0); same = tt; again = tt; limit = limits; kept = kept }));
-          registered = rw gives (waits mid.buffer s q left b answer before after (rw is refl) polled task.covered);
+          leaves = rw gives result.0;
+          registered = rw gives result.1;
         }
 
     -- no poll changes how many the queue can hold, and no more are held after a poll

@@ -1,6 +1,6 @@
 -- What a push and a poll of futures in flight are to a buffer.
 use Rattle.std.proofs.Common.{◌≡◌, ◌<◌, ℕ, List, [], inl, inr, length, Option, Some, None, false, true, ap, refl, sym, subst, arith}
-use Rattle.futures_buffered.proofs.Common.{Poll, Ready, Pending, Context, OnPending, Slots, held_count, stream_of, Gathers-Within, Gathers-After, Entry, Ordered, AddsOutput, PollsFutureQueue, PushAddsOutput, PushLeavesQueue}
+use Rattle.futures_buffered.proofs.Common.{Poll, Ready, Pending, Context, Within, Slots, held_count, stream_of, Gathers-Within, Gathers-After, Entry, Ordered, Buffering, StreamOf, AddsOutput, LeavesHeld, PollsFutureQueue, PushAddsOutput, PushLeavesQueue}
 use Rattle.futures_buffered_in_flight.specs.InFlight.{AnySlotGives, ComesFromSlots, Flights, FlightsWaitAt, FutureOf, flight_slots}
 use Rattle.futures_buffered_in_flight.specs.InFlightOrdered.{AnswersInTurn, CanPollOrdered, ComesOfEach, EntersBack, OrderedWaitsAt, ordered_room}
 use Rattle.futures_buffered_in_flight.specs.declared.in_flight.Came.{Came}
@@ -10,8 +10,14 @@ use Rattle.futures_buffered_in_flight.proofs.InFlightOrderedLemmas.{answers_in_t
 pub use Rattle.futures_buffered_in_flight.proofs.InFlightQueueLemmas.{new_can_poll}
 use Rattle.futures_buffered_in_flight.proofs.InFlightQueueLemmas.{added_gives, added_one, flight_count, kept_room, polled_room}
 use Rattle.futures_buffered_in_flight.specs.InFlightQueue.{CanPollQueue, PollsQueued, PushesQueued}
+use Rattle.futures_buffered.specs.Buffer.{IsNewBuffer}
+use Rattle.futures_buffered_unordered.proofs.StreamAnswersLemmas.{answers_of}
 use Rattle.futures_buffered.proofs.BufferedOrderedLemmas.{starts_some}
 use Rattle.futures_buffered.proofs.BufferUnorderedLemmas.{some_held}
+
+-- a buffer that was made over a new queue
+pub new_buffer : {St Q : Type 0} (is_new : Q → Type 0) (stream : St) (queue : Q) (b : Buffering St Q) → b ≡ record { stream = Some stream; queue = queue } → is_new queue → IsNewBuffer is_new stream b
+new_buffer is_new stream queue b is new = rw is (record { same_stream = refl; new_queue = new })
 
 -- how many an ordered queue holds
 abbrev entry_count : {F A : Type 0} → Ordered (Flights F ℕ) A → ℕ
@@ -44,65 +50,45 @@ module _ {F A T : Type 0} (future : FutureOf F A) where
   abbrev PollsOutput : Flights F T → Poll (Option A) → Flights F T → Context → Context → Type 0
   PollsOutput = PollsQueued future output_of
 
+  abbrev AsStream : StreamOf (Flights F T) A
+  AsStream = stream_of (CanPollQueue future) FlightsWaitAt (ComesFromSlots future)
+
   -- a poll is one of what a buffer holds
   pub polls_queue : (old new : Flights F T) (answer : Poll (Option A)) (cx left : Context) → CanPollQueue future old → PollsOutput old answer new cx left
-      → PollsFutureQueue PollsOutput flight_count flight_slots (stream_of (CanPollQueue future) FlightsWaitAt (ComesFromSlots future)) old answer new cx left
+      → PollsFutureQueue PollsOutput flight_count flight_slots AsStream old answer new cx left
   polls_queue old new (Ready None) cx left can p =
       record {
         polled = p;
-        empty = (p.0.gave.0, p.0.gave.3 can.none_cancelled);
-        holds = tt;
-        fewer = tt;
-        same_count = tt;
+        counts = (p.0.gave.0, p.0.gave.3 can.none_cancelled);
         same_room = (polled_room future old new (Ready None) p.0.gave).0;
         some = p.1.some;
         bound = p.1.bound;
-        as_stream = record { value = record { each = tt; ends = let k = p.0.gave.0 in omega (arith, k) }; rest = tt; same = tt; goes = tt; again = tt; registered = tt; kept = p.0.kept };
+        as_stream = answers_of AsStream old new (Ready None) cx left (record { each = tt; ends = let k = p.0.gave.0 in omega (arith, k) }) tt tt p.1 tt p.0.kept;
       }
   polls_queue old new (Ready (Some x)) cx left can p =
       let came = p.0 in
       let poll = p.2 in
       let gives : AnySlotGives future old x = subst (λ (y : A). AnySlotGives future old y) (sym p.1) (came.tag, came_under future old new came poll.gave) in
+      let rest = Gathers-After (λ y h. (h.0, polled_tags future old new (Ready (Some came)) poll.gave poll.narrows (h.0, y) h.1)) (flight_count old) (flight_count new) x poll.gave.fewer gives in
       record {
         polled = p;
-        empty = tt;
-        holds = tt;
-        fewer = poll.gave.fewer;
-        same_count = tt;
+        counts = poll.gave.fewer;
         same_room = (polled_room future old new (Ready (Some came)) poll.gave).0;
         some = p.3.some;
         bound = p.3.bound;
-        as_stream = record {
-          value = comes_first old x gives;
-          rest = Gathers-After (λ y h. (h.0, polled_tags future old new (Ready (Some came)) poll.gave poll.narrows (h.0, y) h.1)) (flight_count old) (flight_count new) x poll.gave.fewer gives;
-          same = tt;
-          goes = p.3;
-          again = tt;
-          registered = tt;
-          kept = poll.kept;
-        };
+        as_stream = answers_of AsStream old new (Ready (Some x)) cx left (comes_first old x gives) rest tt p.3 tt poll.kept;
       }
   polls_queue old new Pending cx left can p =
       let poll = p.0 in
       let count : flight_count new ≡ flight_count old = ap (λ (s : Slots (Place T)). held_count s) poll.gave.1 in
+      let same : Within (ComesFromSlots future old) (ComesFromSlots future new) = Gathers-Within (λ y h. (h.0, polled_tags future old new Pending poll.gave poll.narrows (h.0, y) h.1)) (flight_count old) (flight_count new) count in
       record {
         polled = p;
-        empty = tt;
-        holds = omega (arith, poll.gave.0, count);
-        fewer = tt;
-        same_count = count;
+        counts = (count, omega (arith, poll.gave.0, count));
         same_room = (polled_room future old new Pending poll.gave).0;
         some = p.1.some;
         bound = p.1.bound;
-        as_stream = record {
-          value = tt;
-          rest = tt;
-          same = Gathers-Within (λ y h. (h.0, polled_tags future old new Pending poll.gave poll.narrows (h.0, y) h.1)) (flight_count old) (flight_count new) count;
-          goes = tt;
-          again = p.1;
-          registered = poll.registered;
-          kept = poll.kept;
-        };
+        as_stream = answers_of AsStream old new Pending cx left tt tt same p.1 poll.registered poll.kept;
       }
 
 module _ {F A : Type 0} (future : FutureOf F A) where
@@ -113,21 +99,19 @@ module _ {F A : Type 0} (future : FutureOf F A) where
   push_adds_ordered old new f p = record { adds = p.comes; value = tt; overtakes = tt }
 
 -- a pending queue has a future in progress, and so an entry
-in_turn_holds : {F A : Type 0} (future : FutureOf F A) (old new : Ordered (Flights F ℕ) A) (answer : Poll (Option A)) (cx left : Context) → AnswersInTurn future false old answer new cx left → OnPending answer (0 < length new.entries)
-in_turn_holds future old new (Ready o) cx left p = tt
-in_turn_holds {A = A} future old new Pending cx left p =
+in_turn_counts : {F A : Type 0} (future : FutureOf F A) (old new : Ordered (Flights F ℕ) A) (answer : Poll (Option A)) (cx left : Context) → AnswersInTurn future false old answer new cx left → LeavesHeld entry_count old answer new
+in_turn_counts future old new (Ready None) cx left p = p.empty
+in_turn_counts future old new (Ready (Some x)) cx left p = p.fewer
+in_turn_counts {A = A} future old new Pending cx left p =
     let last = p.gave.last_step in
-    subst (λ (es : List (Entry A)). 0 < length es) (sym last.2) (starts_some p.gave.before.entries last.0)
+    (p.same_count, subst (λ (es : List (Entry A)). 0 < length es) (sym last.2) (starts_some p.gave.before.entries last.0))
 
 pub polls_queue_ordered : {F A : Type 0} (future : FutureOf F A) (old new : Ordered (Flights F ℕ) A) (answer : Poll (Option A)) (cx left : Context) → AnswersInTurn future false old answer new cx left
     → PollsFutureQueue (AnswersInTurn future false) entry_count ordered_room (stream_of (CanPollOrdered future) OrderedWaitsAt (ComesOfEach future)) old answer new cx left
 polls_queue_ordered future old new answer cx left poll =
     record {
       polled = poll;
-      empty = poll.empty;
-      holds = in_turn_holds future old new answer cx left poll;
-      fewer = poll.fewer;
-      same_count = poll.same_count;
+      counts = in_turn_counts future old new answer cx left poll;
       same_room = poll.same_room.0;
       some = poll.again.some;
       bound = poll.bound refl;

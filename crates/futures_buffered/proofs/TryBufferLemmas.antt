@@ -5,7 +5,7 @@ use Rattle.futures_buffered.proofs.BufferLemmas.{adds_anywhere}
 -- a future was pushed
 pub ok_adds : {F T E Q : Type 0} (in_order : Bool) (yields : Q → Runs (Result T E)) (gives : F → Result T E → Type 0) (old new : Q) (f : F) (given : Option (Result T E)) → PushAddsOutput in_order yields (gives f) old given new
     → PushAddsOutput false yields (TryItemGives gives (Ok f)) old given new
-ok_adds in_order yields gives old new f None push = record { adds = adds_anywhere in_order (yields old) (yields new) (gives f) push.adds; value = tt; overtakes = tt }
+ok_adds in_order yields gives old new f None push = record { adds = adds_anywhere (gives f) in_order (yields old) (yields new) push.adds; value = tt; overtakes = tt }
 ok_adds in_order yields gives old new f (Some x) push = record { adds = tt; value = push.value; overtakes = refl }
 
 -- an error was handed back

@@ -1,7 +1,6 @@
 -- The names from other crates that contracts and definitions of this crate use in more than one file.
 pub use Rattle.std.specs.Coded.{Coded, code_by, coded_option, coded_ℕ, coded×}
 pub use Rattle.std.specs.List.{AllZip, FoldsTo}
-pub use Rattle.std.specs.declared.ops.ControlFlow.TheVariants.{Break, Continue}
 pub use Rattle.futures.specs.Poll.{IfReady, OnPending}
 pub use Rattle.futures.specs.Task.{Covers, Keeps}
 pub use Rattle.futures.specs.declared.task.Poll.{Poll}
@@ -18,4 +17,4 @@ pub use Rattle.futures_buffered_ordered.specs.FuturesOrderedBounded.{SetGives, S
 pub use Rattle.futures_buffered_unordered.specs.FuturesUnorderedBounded.{Bounded, HoldsEach, IsNewSet, IsWoken, Pushes}
 pub use Rattle.futures_buffered_unordered.specs.FuturesUnorderedBounded.{held_in, slots_in}
 pub use Rattle.futures_buffered_unordered.specs.PollsBounded.{PollsBounded, itself}
-pub use Rattle.futures_buffered_unordered.specs.StreamAnswers.{OfSomeTask, StreamAnswers, stream_of}
+pub use Rattle.futures_buffered_unordered.specs.StreamAnswers.{OfSomeTask, StreamAnswers, StreamOf}

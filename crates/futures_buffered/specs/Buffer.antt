@@ -1,12 +1,11 @@
 -- One call of a buffer, what many calls make together, and what may come. A call takes items from a stream while there
 -- is room. Then it polls its queue once, unless a push returned an answer. The queue may be any that has a number of
 -- entries, a push and a poll.
-use Rattle.futures_buffered.specs.Below.{Continue, Break, FoldsTo, AllZip, Coded, code_by, coded×, coded_option, Covers}
+use Rattle.futures_buffered.specs.Below.{FoldsTo, AllZip, Coded, code_by, coded×, coded_option, Covers}
 use Rattle.futures_buffered.specs.Below.{Keeps, Context, Poll, Ready, Pending, IfReady, OnPending, StreamAnswers}
 use Rattle.std.specs.Prelude.{◌≡◌, ℕ, ◌+◌, ◌-◌, ◌<◌, ◌≤◌, ◌^◌, List, [], ◌++◌, Option, Some, None, IfSome, IfNone}
 use Rattle.std.specs.Prelude.{IsSomeAnd, is_some, Bool, true, false, ◌⊎◌, cond, min, nat_lt, refl, filter_map, flat_map}
-use Rattle.std.specs.declared.ops.ControlFlow.{ControlFlow}
-use Rattle.std.specs.Option.{option_and_then}
+use Rattle.std.specs.Option.{option_and_then, option_to_list}
 use Rattle.futures.specs.Runs.{Runs, After, Within, Ends, AllItems, Chains, Resolves}
 use Rattle.futures.specs.Buffered.{AnyItemGives, GathersWith}
 use Rattle.futures_buffered.specs.FutureQueue.{MayCome}
@@ -104,13 +103,6 @@ module _ {St X Q : Type 0} (next : St → Poll (Option X) → St → Type 0) (co
     DrawsLast old None new = DrawsNone old new
     DrawsLast old (Some answer) new = (item : X) × DrawsItem (Some answer) old item new
 
-    -- at most one item is taken, and the call takes further items only if that one is held
-    abbrev pub DrawsUpToOne : Buffering St Q → ControlFlow (Option A) (Unit {0}) → Buffering St Q → Type 0
-    DrawsUpToOne old (Continue _) new = (item : X)
-        × DrawsItem None old item new
-        × (count new.queue ≡ count old.queue + 1)
-    DrawsUpToOne old (Break given) new = DrawsLast old given new
-
     -- these items were taken one after another and pushed, each while fewer than `n` were held, and then filling ended;
     -- what was pushed stays held
     pub record DrawsAll (old : Buffering St Q) (drawn : List X) (given : Option A) (new : Buffering St Q) : Type 0 where
@@ -132,28 +124,6 @@ module _ {St X Q : Type 0} (next : St → Poll (Option X) → St → Type 0) (co
     abbrev pub CallsInTurn : (Q → Poll (Option A) → Q → Type 0) → Buffering St Q
         → List (List X × Poll (Option A)) → Buffering St Q → Type 0
     CallsInTurn polls = FoldsTo (λ old call new. BufferCall polls (Unit {0}) old call.0 call.1 new)
-
--- the answer that a push returned when filling ended, if one did
-abbrev pub handed_back : {A : Type 0} → ControlFlow (Option A) (Unit {0}) → Option A
-handed_back (Continue _) = None
-handed_back (Break given) = given
-
--- What filling leaves of a buffer. `can_draw` says whether items may be taken, and `yields` what may come from the
--- buffer. `gave` is the answer that a push returned, if one did.
-pub record DrawsBuffer {St A Q : Type 0} (count room : Q → ℕ) (can_draw : Buffering St Q → Type 0)
-    (yields : Buffering St Q → Runs A) (old : Buffering St Q) (gave : Option A) (new : Buffering St Q) : Type 0 where
-  -- the queue can hold as many as before
-  pub same_room : room new.queue ≡ room old.queue
-  -- the queue holds no more than that
-  pub bound : count new.queue ≤ room new.queue
-  -- further items may be taken
-  pub again : can_draw new
-  -- without an answer, nothing is added to what may come
-  pub within : IfNone gave (Within (yields old) (yields new))
-  -- an answer is one that might come first
-  pub value : IfSome gave (λ x. yields old [] (Some x))
-  -- what may come after the answer might have come after it before
-  pub after : IfSome gave (λ x. After (yields old) x (yields new))
 
 -- What filling makes of the task, from `cx` to `left`. `none_came` holds if filling stopped because no item came.
 pub record DrawsTask {St X Q : Type 0} (next : St → Poll (Option X) → St → Type 0) (count room : Q → ℕ)
@@ -197,9 +167,9 @@ module _ {St X A Q : Type 0} (yields : St → Runs X) (item_gives : X → A → 
 -- the ghost members of a buffer as a stream
 abbrev pub buffer_of : {St X A Q : Type 0} → StreamOf St X → FutureQueueOf Q X A → StreamOf (Buffering St Q) A
 buffer_of stream queue = record {
-  can_poll = CanDraw stream.can_poll stream.yields queue.is_fit queue.can_poll;
-  needs = WaitsAt stream.needs queue.needs queue.count queue.room;
-  yields = BufferGives stream.yields queue.gives queue.count queue.yields queue.in_order;
+  can_poll = CanDraw stream.can_poll stream.yields queue.is_fit queue.as_stream.can_poll;
+  needs = WaitsAt stream.needs queue.as_stream.needs queue.count queue.room;
+  yields = BufferGives stream.yields queue.gives queue.count queue.as_stream.yields queue.in_order;
 }
 
 -- One call, which takes a buffer from `old` to `new` and the task from `cx` to `left`. A clause gives stream and queue
@@ -261,22 +231,25 @@ pub record IsNewBuffer {St Q : Type 0} (is_new : Q → Type 0) (stream : St) (b 
   pub same_stream : b.stream ≡ Some stream
   pub new_queue : is_new b.queue
 
--- What filling makes of a buffer and of its task, by the ghost members of stream and queue.
-module _ {St X A Q : Type 0} (stream : StreamOf St X) (queue : FutureQueueOf Q X A) where
-  -- one step of filling, which takes at most one item
-  abbrev pub DrawsOne : Buffering St Q → ControlFlow (Option A) (Unit {0}) → Buffering St Q → Type 0
-  DrawsOne old result new = DrawsUpToOne (PollsStream stream.yields) queue.count
-      (queue.room old.queue) queue.pushes old result new
+-- whatever may come from `new` may come from `old`, after these first ones
+abbrev pub Follows : {A : Type 0} → Runs A → List A → Runs A → Type 0
+Follows {A} old first new = (xs : List A) (last : Option A) → new xs last → old (first ++ xs) last
 
-  -- filling in one call
-  abbrev pub FillsBuffer : Buffering St Q → Option A → Buffering St Q → Type 0
-  FillsBuffer old given new = (drawn : List X) × DrawsAll (PollsStream stream.yields) queue.count
-      (queue.room old.queue) queue.pushes old drawn given new
-
-  -- what filling leaves of the buffer
-  abbrev pub LeavesBuffer : Buffering St Q → Option A → Buffering St Q → Type 0
-  LeavesBuffer = DrawsBuffer queue.count queue.room (buffer_of stream queue).can_poll (buffer_of stream queue).yields
-
-  -- what filling leaves of the task, by whether it stopped because no item came
-  abbrev pub DrawingLeavesTask : Type 0 → Buffering St Q → Buffering St Q → Context → Context → Type 0
-  DrawingLeavesTask = DrawsTask (PollsStream stream.yields) queue.count queue.room stream.needs
+-- What filling makes of a buffer, and of its task, which goes from `cx` to `left`. `gave` is the answer that a push
+-- returned, if one did.
+pub record FillsBuffer {St X A Q : Type 0} (stream : StreamOf St X) (queue : FutureQueueOf Q X A) (old : Buffering St Q)
+    (gave : Option A) (new : Buffering St Q) (cx left : Context) : Type 0 where
+  -- the items taken
+  pub drawn : List X
+  pub draws : DrawsAll (PollsStream stream.yields) queue.count (queue.room old.queue) queue.pushes old drawn gave new
+  -- the queue can hold as many as before
+  pub same_room : queue.room new.queue ≡ queue.room old.queue
+  -- the queue holds no more than that
+  pub bound : queue.count new.queue ≤ queue.room new.queue
+  -- further items may be taken
+  pub again : (buffer_of stream queue).can_poll new
+  -- an answer is one that might come first
+  pub value : IfSome gave (λ x. (buffer_of stream queue).yields old [] (Some x))
+  -- what may come now might have come before, after the answer if there is one
+  pub rest : Follows ((buffer_of stream queue).yields old) (option_to_list gave) ((buffer_of stream queue).yields new)
+  pub task : DrawsTask (PollsStream stream.yields) queue.count queue.room stream.needs (gave ≡ None) old new cx left

@@ -9,10 +9,6 @@ use Rattle.futures_buffered.specs.Buffer.{Buffering, StreamOf, PollsStream, Call
 use Rattle.futures_buffered.specs.Buffer.{all_outputs}
 use Rattle.futures_buffered.specs.TryBuffer.{PushesOk, WithErrors, futures_of}
 
--- a pending poll of a set waits where its source waits
-abbrev pub SetWaitsAt : {F S : Type 0} → (S → ℕ → Type 0) → Bounded F S → ℕ → Type 0
-SetWaitsAt source_needs set place = source_needs set.source place
-
 -- the futures that are held, by rising slot
 abbrev pub held_values : {F : Type 0} → Slots F → List F
 held_values m = filter_map (λ o. o) m.places

@@ -8,7 +8,7 @@ use Rattle.futures_buffered_ordered.specs.declared.numbered.Numbered.{Numbered}
 use Rattle.futures_buffered.specs.FutureQueue.{OnlyPushes}
 use Rattle.futures_buffered.specs.Buffer.{StreamOf, Buffering, PollsStream, CallsInTurn, Accounts, all_drawn}
 use Rattle.futures_buffered.specs.Buffer.{all_outputs}
-use Rattle.futures_buffered.specs.BufferUnordered.{PendsTo, MayGiveInSlot, SetWaitsAt}
+use Rattle.futures_buffered.specs.BufferUnordered.{PendsTo, MayGiveInSlot}
 use Rattle.futures_buffered.specs.TryBuffer.{PushesOk, WithErrors, futures_of}
 
 -- how many entries a queue has, futures in progress and outputs that are kept
@@ -18,10 +18,6 @@ queue_len queue = length queue.entries
 -- how many futures can be in progress
 abbrev pub queue_slots : {F A S : Type 0} → OrderedBounded F A S → ℕ
 queue_slots queue = slot_count queue.set.slots
-
--- a pending poll of a queue waits where the source of its set waits
-abbrev pub QueueWaitsAt : {F A S : Type 0} → (S → ℕ → Type 0) → OrderedBounded F A S → ℕ → Type 0
-QueueWaitsAt source_needs queue = SetWaitsAt source_needs queue.set
 
 -- a future became an entry: a slot holds the future with the number of the entry, as pending polls with the waker of
 -- that slot left it; or the future gave the output that is kept

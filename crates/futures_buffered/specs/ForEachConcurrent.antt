@@ -48,7 +48,7 @@ module _ {St X Fn F Q : Type 0} (stream : StreamOf St X) (closure : Mut Fn (X ×
     pub next : IfSome b.buffer.stream stream.can_poll
     pub to_come : AtEachItem (Calls closure) (Ahead stream.yields b.buffer.stream) b.closure
         (λ f x. closure.pre f (x, tt) × ((made : F) (after : Fn) → Calls closure f x made after → queue.is_fit made))
-    pub held : queue.can_poll b.buffer.queue
+    pub held : queue.as_stream.can_poll b.buffer.queue
 
   -- The first part of a turn. Without an item, the stream was not polled, since it has ended or there is no room; or
   -- it was pending; or it ended and was dropped; and the closure is unchanged. With an item, there was room, the
@@ -92,7 +92,7 @@ module _ {St X Fn F Q : Type 0} (stream : StreamOf St X) (closure : Mut Fn (X ×
     abbrev pub for_each_of : TurnsOf (ForEach St Fn Q) (Unit {0})
     for_each_of = record {
       can_poll = CanForEach;
-      needs = λ b. WaitsAt stream.needs queue.needs queue.count queue.room b.buffer;
+      needs = λ b. WaitsAt stream.needs queue.as_stream.needs queue.count queue.room b.buffer;
       gives = λ b _. MayEnd stream b;
       is_over = λ b. (b.buffer.stream ≡ None) × (queue.count b.buffer.queue ≡ 0);
       limit = λ b. limit b.buffer.queue;

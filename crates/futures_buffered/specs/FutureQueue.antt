@@ -1,5 +1,5 @@
 -- What a push leaves of a queue of futures, and what a poll makes of it and of the task.
-use Rattle.futures_buffered.specs.Below.{Context, Poll, IfReady, OnPending, StreamAnswers}
+use Rattle.futures_buffered.specs.Below.{Context, Poll, Pending, Ready, StreamAnswers}
 use Rattle.std.specs.Prelude.{◌≡◌, ℕ, ◌+◌, ◌<◌, ◌≤◌, List, Option, Some, None, IfSome, IfNone, OnSome, Bool, true}
 use Rattle.std.specs.Prelude.{false, ◌⊎◌}
 use Rattle.futures.specs.Runs.{Runs, Within, Leads, Chains, Ends}
@@ -39,6 +39,12 @@ pub record PushAddsOutput {A Q : Type 0} (in_order : Bool) (yields : Q → Runs 
   -- an answer comes before what is held, so the queue does not keep the order
   pub overtakes : OnSome given (in_order ≡ false)
 
+-- how many a poll leaves held, by its answer: it returns `None` if nothing is held, and changes nothing then
+abbrev pub LeavesHeld : {A Q : Type 0} → (Q → ℕ) → Q → Poll (Option A) → Q → Type 0
+LeavesHeld count old (Ready None) new = (count old ≡ 0) × (new ≡ old)
+LeavesHeld count old (Ready (Some _)) new = count new + 1 ≡ count old
+LeavesHeld count old Pending new = (count new ≡ count old) × (0 < count new)
+
 -- One poll, which takes a queue from `old` to `new` and the task from `cx` to `left`. `polls` is what the queue says of
 -- each of its polls, `count` says how many it holds, and `room` how many it can hold. `stream` has its ghost members as
 -- a stream.
@@ -47,13 +53,7 @@ pub record PollsFutureQueue {A Q : Type 0} (polls : Q → Poll (Option A) → Q 
     : Type 0 where
   -- what the poll returns, and what it makes of the queue and of the task, by the queue's own relation
   pub polled : polls old answer new cx left
-  -- the poll returns `None` if and only if the queue holds nothing, and changes nothing then
-  pub empty : IfReady answer (λ o. IfNone o ((count old ≡ 0) × (new ≡ old)))
-  pub holds : OnPending answer (0 < count new)
-  -- an output leaves one fewer
-  pub fewer : IfReady answer (λ o. OnSome o (count new + 1 ≡ count old))
-  -- a pending poll leaves as many as before
-  pub same_count : OnPending answer (count new ≡ count old)
+  pub counts : LeavesHeld count old answer new
   -- the queue can hold as many as before, and at least one
   pub same_room : room new ≡ room old
   pub some : 0 < room new

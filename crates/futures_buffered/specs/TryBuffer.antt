@@ -1,6 +1,7 @@
 -- A queue of futures to which errors are pushed also: a push of an error returns it at once. The queue inside may be
 -- any that has a push.
-use Rattle.std.specs.Prelude.{◌≡◌, List, [], ◌∷◌, map, Option, Some, Result, Ok, Err}
+use Rattle.std.specs.Prelude.{◌≡◌, List, filter_map, map, Option, Some, Result, Ok, Err}
+use Rattle.std.specs.Result.{result_ok}
 use Rattle.futures_buffered_unordered.specs.Interleaves.{Interleaves}
 
 -- a push of a future is a push of the queue inside; a push of an error returns the error and changes nothing
@@ -16,9 +17,7 @@ TryItemGives gives (Err error) x = x ≡ Err error
 
 -- the futures among these items
 abbrev pub futures_of : {F E : Type 0} → List (Result F E) → List F
-futures_of [] = []
-futures_of (Ok future ∷ items) = future ∷ futures_of items
-futures_of (Err error ∷ items) = futures_of items
+futures_of = filter_map result_ok
 
 -- `given` is the outputs, with some errors between them, each as an answer
 abbrev pub WithErrors : {T E : Type 0} → List (Result T E) → List (Result T E) → Type 0

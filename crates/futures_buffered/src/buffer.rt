@@ -1,9 +1,8 @@
 //! Some futures of a stream at a time, in any queue of futures.
-ghost use Rattle.futures_buffered.specs.Below.{Break, MakesSlots};
+ghost use Rattle.futures_buffered.specs.Below.{MakesSlots};
 ghost use Rattle.std.specs.Prelude.{◌≡◌, ◌<◌, ◌≤◌, ◌↔◌, IfSome, IsTrue, None, option_copied};
-ghost use Rattle.futures_buffered.specs.Buffer.{DrawsNext, DrawsOne, DrawsTask, FillsBuffer, LeavesBuffer, PollsStream};
-ghost use Rattle.futures_buffered.specs.Buffer.{DrawingLeavesTask, buffer_of, PollsBuffer, IsNewBuffer, answer_from};
-ghost use Rattle.futures_buffered.specs.Buffer.{handed_back, hint_with, hint_ahead};
+ghost use Rattle.futures_buffered.specs.Buffer.{DrawsNext, DrawsTask, FillsBuffer, IsNewBuffer, PollsBuffer};
+ghost use Rattle.futures_buffered.specs.Buffer.{PollsStream, answer_from, buffer_of, hint_ahead, hint_with};
 
 use crate::future_queue::{FutureQueue, NewQueue};
 use futures::Stream;
@@ -15,7 +14,6 @@ use futures_buffered_unordered::{FusedStream, SizeHint};
 use std::alloc::Global;
 use std::fmt;
 use std::marker::Model;
-use std::ops::ControlFlow;
 
 /// Futures of a stream, at most as many at a time as the queue has room for.
 ///
@@ -41,7 +39,7 @@ impl<St: Drop, Q: Drop> Model for Buffer<St, Q> {
 impl<St: Drop, Q: Drop> Buffer<St, Q> {
     /// Makes a buffer over this stream and a queue that was made before. Does not poll.
     pub fn with_queue(stream: St, queue: Q) -> Self
-        ensures { IsNewBuffer (λ held. held ≡ queue) stream result }
+        ensures { result ≡ record { stream = Some stream; queue = queue } }
     {
         Buffer {
             stream: Some(stream),
@@ -74,10 +72,7 @@ impl<St: Drop, Q: NewQueue> Buffer<St, Q> {
         ensures { MakesSlots n (IsNewBuffer (Q.made n limit) stream) result }
     {
         let queue = Q::make(env, alloc, n, limit)?;
-        Ok(Buffer {
-            stream: Some(stream),
-            queue,
-        })
+        Ok(Self::with_queue(stream, queue))
     }
 }
 
@@ -93,6 +88,7 @@ impl<St: Drop, Q: NewQueue<Env = (), Source = SharedReady>> Buffer<St, Q> {
 }
 
 // Takes one item, if the stream has not ended, there is room, and an item comes. Drops a stream that ends.
+#[inline(always)]
 pub(crate) fn next_item<St: Stream, I, Q: FutureQueue<I>>(
     stream: &mut Option<St>,
     queue: &Q,
@@ -152,45 +148,29 @@ impl<St: Stream, Q: FutureQueue<St::Item>> Buffer<St, Q> {
     {
         self.stream.as_ref()
     }
+}
 
-    // Takes one item, if the stream has not ended, there is room, and an item comes. Breaks if no item was taken, and
-    // if the push of the item returned an answer.
-    fn draw_one(&mut self, cx: &mut Context<'_>) -> ControlFlow<Option<Q::Output>>
-        requires { (buffer_of St.Stream Q.FutureQueue).can_poll self.old }
-        ensures draws { DrawsOne St.Stream Q.FutureQueue self.old result self.new }
-        ensures buffer { LeavesBuffer St.Stream Q.FutureQueue
-            self.old (handed_back result) self.new }
-        ensures task { DrawingLeavesTask St.Stream Q.FutureQueue (result ≡ Break None)
-            self.old self.new cx.old cx.new }
-    {
-        let Some(item) = next_item(&mut self.stream, &self.queue, cx) else {
-            return ControlFlow::Break(None);
-        };
-        if let Some(answer) = self.queue.push(item) {
-            return ControlFlow::Break(Some(answer));
-        }
-        ControlFlow::Continue(())
-    }
-
-    // Takes items while the stream has not ended, there is room, and an item comes. Returns the first answer that a
-    // push returns, and takes no further item then.
-    fn fill(&mut self, cx: &mut Context<'_>) -> Option<Q::Output>
-        requires { (buffer_of St.Stream Q.FutureQueue).can_poll self.old }
-        ensures draws { FillsBuffer St.Stream Q.FutureQueue self.old result self.new }
-        ensures buffer { LeavesBuffer St.Stream Q.FutureQueue self.old result self.new }
-        ensures task { DrawingLeavesTask St.Stream Q.FutureQueue (result ≡ None)
-            self.old self.new cx.old cx.new }
-    {
-        'draws: loop {
-            match self.draw_one(cx) {
-                ControlFlow::Continue(()) => {}
-                ControlFlow::Break(given) => return given,
-            }
+// Takes items while the stream has not ended, there is room, and an item comes. Returns the first answer that a push
+// returns, and takes no further item then.
+fn fill<St: Stream, Q: FutureQueue<St::Item>>(
+    stream: &mut Option<St>,
+    queue: &mut Q,
+    cx: &mut Context<'_>,
+) -> Option<Q::Output>
+    requires { (buffer_of St.Stream Q.FutureQueue).can_poll (record { stream = stream.old; queue = queue.old }) }
+    ensures { FillsBuffer St.Stream Q.FutureQueue (record { stream = stream.old; queue = queue.old }) result
+        (record { stream = stream.new; queue = queue.new }) cx.old cx.new }
+{
+    'draws: while let Some(item) = next_item(stream, queue, cx) {
+        if let Some(answer) = queue.push(item) {
+            return Some(answer);
         }
     }
+    None
 }
 
 // Returns the answer of a poll, by whether the stream goes on and by what the queue returned.
+#[inline(always)]
 fn after_poll<A>(goes_on: bool, polled: Poll<Option<A>>) -> Poll<Option<A>>
     ensures { result ≡ answer_from goes_on polled }
 {
@@ -222,7 +202,7 @@ impl<St: Stream, Q: FutureQueue<St::Item>> Stream for Buffer<St, Q> {
         requires { (buffer_of St.Stream Q.FutureQueue).can_poll self.old }
         ensures { PollsBuffer St.Stream Q.FutureQueue self.old result self.new cx.old cx.new }
     {
-        if let Some(answer) = self.fill(cx) {
+        if let Some(answer) = fill(&mut self.stream, &mut self.queue, cx) {
             return Poll::Ready(Some(answer));
         }
         let polled = self.queue.poll_output(cx);

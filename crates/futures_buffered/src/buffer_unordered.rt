@@ -1,9 +1,8 @@
 //! Some futures of a stream at a time, whose outputs come as they finish.
 ghost use Rattle.futures_buffered.specs.Below.{Pushes, IsNewSet, held_in, slots_in, PollsBounded, itself};
 ghost use Rattle.std.specs.Prelude.{false};
-ghost use Rattle.futures_buffered_unordered.specs.Held.{AllHeld, ComesFrom};
 ghost use Rattle.futures_buffered.specs.FutureQueue.{OnlyPushes};
-ghost use Rattle.futures_buffered.specs.BufferUnordered.{LosesNothing, MayGiveInSlot, SetWaitsAt};
+ghost use Rattle.futures_buffered.specs.BufferUnordered.{LosesNothing, MayGiveInSlot};
 
 use crate::buffer::Buffer;
 use crate::future_queue::{FutureQueue, LimitedQueue, NewQueue};
@@ -63,15 +62,11 @@ impl<F: SlotFuture<S::Waker>, S: ReadySource> FutureQueue<F> for CompletionQueue
 
     ghost is_fit = { F.can_poll };
 
-    ghost can_poll = { λ set. AllHeld F.can_poll set.slots };
-
     ghost gives = { MayGiveInSlot F.polled };
 
-    ghost yields = { λ set. ComesFrom F.polled set.slots };
+    ghost as_stream = { ⟦<FuturesUnorderedBounded<F, S> as Stream>⟧ };
 
     ghost in_order = { false };
-
-    ghost needs = { SetWaitsAt S.needs };
 
     fn len(&self) -> usize {
         self.set.len()
@@ -86,6 +81,7 @@ impl<F: SlotFuture<S::Waker>, S: ReadySource> FutureQueue<F> for CompletionQueue
         None
     }
 
+    #[tactic(auto, using(crate::proofs::BufferUnorderedLemmas::polls_set))]
     fn poll_output(&mut self, cx: &mut Context<'_>) -> Poll<Option<F::Output>> {
         self.set.poll_next(cx)
     }

@@ -1,11 +1,10 @@
 //! Some futures of a stream at a time, whose outputs come in the order of the items.
-ghost use Rattle.futures_buffered.specs.Below.{itself, EachRunning, IsNewBoundedQueue, PollsOrderedBounded};
-ghost use Rattle.futures_buffered.specs.Below.{PushesNumber, SetMayGive};
+ghost use Rattle.futures_buffered.specs.Below.{IsNewBoundedQueue, PollsOrderedBounded, PushesNumber, itself};
 ghost use Rattle.std.specs.Prelude.{true};
-ghost use Rattle.futures_buffered_ordered.specs.OrderedEntries.{AddsBack, ComesInOrder};
+ghost use Rattle.futures_buffered_ordered.specs.OrderedEntries.{AddsBack};
 ghost use Rattle.futures_buffered.specs.FutureQueue.{OnlyPushes};
 ghost use Rattle.futures_buffered.specs.BufferUnordered.{MayGiveInSlot};
-ghost use Rattle.futures_buffered.specs.BufferedOrdered.{GivesInOrder, QueueWaitsAt, queue_len, queue_slots};
+ghost use Rattle.futures_buffered.specs.BufferedOrdered.{GivesInOrder, queue_len, queue_slots};
 
 use crate::buffer::Buffer;
 use crate::future_queue::{FutureQueue, NewQueue};
@@ -67,15 +66,11 @@ impl<F: SlotFuture<S::Waker, Output = A>, A: Drop, S: ReadySource> FutureQueue<F
 
     ghost is_fit = { F.can_poll };
 
-    ghost can_poll = { λ queue. EachRunning F.can_poll queue.set };
-
     ghost gives = { MayGiveInSlot F.polled };
 
-    ghost yields = { ComesInOrder (SetMayGive F.polled) };
+    ghost as_stream = { ⟦<BoundedQueue<F, A, S> as Stream>⟧ };
 
     ghost in_order = { true };
-
-    ghost needs = { QueueWaitsAt S.needs };
 
     fn len(&self) -> usize {
         self.queue.len()

@@ -3,8 +3,8 @@
 //! A buffer is written once, for any such queue. The outputs of a `CompletionQueue`, and of a `FuturesUnorderedBounded`
 //! of `in_flight`, come as the futures finish. An `OrderedQueue` keeps the order of the pushes. A `TryQueue` is made of
 //! any of them, and accepts errors also.
-ghost use Rattle.futures_buffered.specs.Below.{MakesSlots, stream_of};
-ghost use Rattle.std.specs.Prelude.{◌≡◌, ◌<◌, ◌≤◌, ℕ, Bool, List, None, Option};
+ghost use Rattle.futures_buffered.specs.Below.{MakesSlots, StreamOf};
+ghost use Rattle.std.specs.Prelude.{◌≡◌, ◌<◌, ◌≤◌, ℕ, Bool, None, Option};
 ghost use Rattle.futures_buffered.specs.FutureQueue.{PollsFutureQueue, PushAddsOutput, PushLeavesQueue};
 
 use futures::task::{Context, Poll};
@@ -40,20 +40,14 @@ pub trait FutureQueue<I>: Drop {
     // The items that may be pushed.
     ghost is_fit: { I → Type 0 };
 
-    // Each future that is held may be polled.
-    ghost can_poll: { Self → Type 0 };
-
     // What an item may give.
     ghost gives: { I → Self.Output → Type 0 };
 
-    // The outputs that may come, and one more answer after them.
-    ghost yields: { Self → List Self.Output → Option Self.Output → Type 0 };
+    // The queue as a stream: when it may be polled, where a pending poll waits, and which outputs may come.
+    ghost as_stream: { StreamOf Self Self.Output };
 
     // Whether the outputs come in the order of the pushes.
     ghost in_order: { Bool };
-
-    // The places of a task's wakes at which a pending poll waits, by their names.
-    ghost needs: { Self → ℕ → Type 0 };
 
     /// Returns how many are held.
     fn len(&self) -> usize
@@ -70,19 +64,18 @@ pub trait FutureQueue<I>: Drop {
     /// The queue refuses no item: if an allocation of its push fails, the push does without it.
     fn push(&mut self, item: I) -> Option<Self::Output>
         requires room { count self.old < room self.old }
-        requires held { can_poll self.old }
+        requires held { as_stream.can_poll self.old }
         requires fit { is_fit item }
         ensures pushed { pushes self.old item result self.new }
         ensures queue { PushLeavesQueue count room self.old result self.new }
-        ensures adds { PushAddsOutput in_order yields (gives item) self.old result self.new }
-        ensures again { can_poll self.new };
+        ensures adds { PushAddsOutput in_order as_stream.yields (gives item) self.old result self.new }
+        ensures again { as_stream.can_poll self.new };
 
     /// Polls the queue once. Returns `Ready(None)` if nothing is held. The poll itself does not allocate; the futures,
     /// and the calls of a source or of the set of `futures`, may.
     fn poll_output(&mut self, cx: &mut Context<'_>) -> Poll<Option<Self::Output>>
-        requires { can_poll self.old }
-        ensures { PollsFutureQueue polls count room (stream_of can_poll needs yields)
-            self.old result self.new cx.old cx.new };
+        requires { as_stream.can_poll self.old }
+        ensures { PollsFutureQueue polls count room as_stream self.old result self.new cx.old cx.new };
 
     /// Returns the name under which a buffer over such a queue is printed.
     fn buffer_name() -> &'static str {

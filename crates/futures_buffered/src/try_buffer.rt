@@ -62,15 +62,11 @@ where
 
     ghost is_fit = { λ item. IfOk item Q.is_fit };
 
-    ghost can_poll = { Q.can_poll };
-
     ghost gives = { TryItemGives Q.gives };
 
-    ghost yields = { Q.yields };
+    ghost as_stream = { Q.as_stream };
 
     ghost in_order = { false };
-
-    ghost needs = { Q.needs };
 
     fn len(&self) -> usize {
         self.queue.len()
@@ -80,6 +76,7 @@ where
         self.queue.capacity()
     }
 
+    #[tactic(auto, using(crate::proofs::TryBufferLemmas::ok_adds, crate::proofs::TryBufferLemmas::error_adds))]
     fn push(&mut self, item: Result<F, E>) -> Option<Result<T, E>> {
         match item {
             Ok(future) => self.queue.push(future),

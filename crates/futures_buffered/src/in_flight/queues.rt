@@ -4,6 +4,7 @@ ghost use Rattle.futures_buffered_in_flight.specs.InFlight.{ComesFromSlots, Flig
 ghost use Rattle.futures_buffered_in_flight.specs.InFlightOrdered.{AnswersInTurn, CanPollOrdered, ComesOfEach};
 ghost use Rattle.futures_buffered_in_flight.specs.InFlightOrdered.{EntersBack, OrderedWaitsAt, ordered_room};
 ghost use Rattle.futures_buffered.specs.FutureQueue.{OnlyPushes};
+ghost use Rattle.futures_buffered_unordered.specs.StreamAnswers.{stream_of};
 
 use crate::future_queue::FutureQueue;
 use futures::Future;
@@ -25,15 +26,11 @@ impl<F: Future<Output: Drop>> FutureQueue<F> for FuturesUnorderedBounded<F> {
 
     ghost is_fit = { F.can_poll };
 
-    ghost can_poll = { CanPollQueue F.Future };
-
     ghost gives = { F.gives };
 
-    ghost yields = { ComesFromSlots F.Future };
+    ghost as_stream = { stream_of (CanPollQueue F.Future) FlightsWaitAt (ComesFromSlots F.Future) };
 
     ghost in_order = { false };
-
-    ghost needs = { FlightsWaitAt };
 
     fn len(&self) -> usize {
         FuturesUnorderedBounded::len(self)
@@ -49,6 +46,7 @@ impl<F: Future<Output: Drop>> FutureQueue<F> for FuturesUnorderedBounded<F> {
         None
     }
 
+    #[tactic(auto, using(crate::proofs::InFlightLemmas::polls_queue))]
     fn poll_output(&mut self, cx: &mut Context<'_>) -> Poll<Option<F::Output>> {
         self.poll_queued(cx)
     }
@@ -69,15 +67,11 @@ impl<F: Future<Output = A>, A: Drop> FutureQueue<F> for FuturesOrderedBounded<F,
 
     ghost is_fit = { F.can_poll };
 
-    ghost can_poll = { CanPollOrdered F.Future };
-
     ghost gives = { F.gives };
 
-    ghost yields = { ComesOfEach F.Future };
+    ghost as_stream = { stream_of (CanPollOrdered F.Future) OrderedWaitsAt (ComesOfEach F.Future) };
 
     ghost in_order = { true };
-
-    ghost needs = { OrderedWaitsAt };
 
     fn len(&self) -> usize {
         FuturesOrderedBounded::len(self)
