@@ -22,7 +22,7 @@ use Rattle.std.proofs.lemmas.Slice.Eq.{bytes_eq-Decides}
 use Rattle.fbuf_lines.specs.declared.command.Command.{Command}
 use Rattle.fbuf_lines.specs.declared.command.Command.TheVariants.{Unordered, Ordered, Growing, Steps, Limit}
 use Rattle.fbuf_lines.specs.declared.command.Command.TheVariants.{Push, Back, Front, Wake, Poll, Len, Mark, Go, Step}
-use Rattle.fbuf_lines.specs.Command.{HasNoSpace, StartsAsNumber, command_word, numbers_of, text_of}
+use Rattle.fbuf_lines.specs.Command.{HasNoSpace, StartsAsNumber, parts_of, text_of}
 use Rattle.fbuf_lines.specs.Command.{spaced_number, rest_text}
 use Rattle.fbuf_lines.proofs.LinesLemmas.{IsAbsentBefore, IsAbsentBefore-rest}
 
@@ -113,7 +113,7 @@ pub two_parts : (text first rest : List ℕ) → HasNoSpace first → IsRest res
     → (first ≡ decimal m) × (rest ≡ spaced_number n)
 two_parts text first rest word is whole m n fits e = cut_one_way first (decimal m) rest (spaced_number n) word (decimal_no_space m fits) is refl (cc)
 
-word_no_space : (command : Command) → HasNoSpace (command_word command)
+word_no_space : (command : Command) → HasNoSpace (parts_of command).0
 word_no_space (Unordered capacity) = refl
 word_no_space (Ordered capacity) = refl
 word_no_space (Growing capacity) = refl
@@ -129,28 +129,16 @@ word_no_space (Mark seat slot) = refl
 word_no_space (Go seat) = refl
 word_no_space Step = refl
 
-numbers_rest : (command : Command) → IsRest (flat_map spaced_number (numbers_of command))
-numbers_rest (Unordered capacity) = refl
-numbers_rest (Ordered capacity) = refl
-numbers_rest (Growing capacity) = refl
-numbers_rest (Steps capacity) = refl
-numbers_rest (Limit limit) = refl
-numbers_rest (Push future) = refl
-numbers_rest (Back future) = refl
-numbers_rest (Front future) = refl
-numbers_rest (Wake slot) = refl
-numbers_rest Poll = tt
-numbers_rest Len = tt
-numbers_rest (Mark seat slot) = refl
-numbers_rest (Go seat) = refl
-numbers_rest Step = tt
+numbers_rest : (numbers : List ℕ) → IsRest (flat_map spaced_number numbers)
+numbers_rest [] = tt
+numbers_rest (n ∷ numbers) = refl
 
 -- the word of a line is that of its command, and its numbers stand behind
 pub command_parts : (line word rest : List ℕ) → HasNoSpace word → IsRest rest → line ≡ word ++ rest
     → (command : Command) → line ≡ text_of command
-    → (word ≡ command_word command) × (rest ≡ flat_map spaced_number (numbers_of command))
+    → (word ≡ (parts_of command).0) × (rest ≡ flat_map spaced_number (parts_of command).1)
 command_parts line word rest none is whole command e =
-    cut_one_way word (command_word command) rest (flat_map spaced_number (numbers_of command)) none (word_no_space command) is (numbers_rest command) (sym whole ∙ e)
+    cut_one_way word (parts_of command).0 rest (flat_map spaced_number (parts_of command).1) none (word_no_space command) is (numbers_rest (parts_of command).1) (sym whole ∙ e)
 
 -- a text behind the word, where the word is none of those that numbers follow
 pub no_bare_word : (line word : List ℕ) (rest : Option (Bor (List ℕ))) → HasNoSpace word
@@ -168,7 +156,7 @@ no_bare_word line word rest none whole some not_unordered not_ordered not_growin
     more (Some rest) some empty = cc
 
     by_command : (command : Command)
-        → (word ≡ command_word command) × (rest_text rest ≡ flat_map spaced_number (numbers_of command))
+        → (word ≡ (parts_of command).0) × (rest_text rest ≡ flat_map spaced_number (parts_of command).1)
         → ⊥
     by_command (Unordered capacity) parts = not_unordered parts.0
     by_command (Ordered capacity) parts = not_ordered parts.0

@@ -8,39 +8,22 @@ use Rattle.fbuf_lines.specs.declared.command.Command.{Command}
 use Rattle.fbuf_lines.specs.declared.command.Command.TheVariants.{Unordered, Ordered, Growing, Steps, Limit, Push, Back}
 use Rattle.fbuf_lines.specs.declared.command.Command.TheVariants.{Front, Wake, Poll, Len, Mark, Go, Step}
 
--- the word that a command begins with
-abbrev pub command_word : Command → List ℕ
-command_word (Unordered capacity) = codes "unordered"
-command_word (Ordered capacity) = codes "ordered"
-command_word (Growing capacity) = codes "growing"
-command_word (Steps capacity) = codes "steps"
-command_word (Limit limit) = codes "limit"
-command_word (Push future) = codes "push"
-command_word (Back future) = codes "back"
-command_word (Front future) = codes "front"
-command_word (Wake slot) = codes "wake"
-command_word Poll = codes "poll"
-command_word Len = codes "len"
-command_word (Mark seat slot) = codes "mark"
-command_word (Go seat) = codes "go"
-command_word Step = codes "step"
-
--- the numbers of a command, in the order in which it writes them
-abbrev pub numbers_of : Command → List ℕ
-numbers_of (Unordered capacity) = capacity ∷ []
-numbers_of (Ordered capacity) = capacity ∷ []
-numbers_of (Growing capacity) = capacity ∷ []
-numbers_of (Steps capacity) = capacity ∷ []
-numbers_of (Limit limit) = limit ∷ []
-numbers_of (Push future) = future.value ∷ future.pending ∷ []
-numbers_of (Back future) = future.value ∷ future.pending ∷ []
-numbers_of (Front future) = future.value ∷ future.pending ∷ []
-numbers_of (Wake slot) = slot ∷ []
-numbers_of Poll = []
-numbers_of Len = []
-numbers_of (Mark seat slot) = seat ∷ slot ∷ []
-numbers_of (Go seat) = seat ∷ []
-numbers_of Step = []
+-- the word that a command begins with, and its numbers, in the order in which it writes them
+abbrev pub parts_of : Command → List ℕ × List ℕ
+parts_of (Unordered capacity) = (codes "unordered", capacity ∷ [])
+parts_of (Ordered capacity) = (codes "ordered", capacity ∷ [])
+parts_of (Growing capacity) = (codes "growing", capacity ∷ [])
+parts_of (Steps capacity) = (codes "steps", capacity ∷ [])
+parts_of (Limit limit) = (codes "limit", limit ∷ [])
+parts_of (Push future) = (codes "push", future.value ∷ future.pending ∷ [])
+parts_of (Back future) = (codes "back", future.value ∷ future.pending ∷ [])
+parts_of (Front future) = (codes "front", future.value ∷ future.pending ∷ [])
+parts_of (Wake slot) = (codes "wake", slot ∷ [])
+parts_of Poll = (codes "poll", [])
+parts_of Len = (codes "len", [])
+parts_of (Mark seat slot) = (codes "mark", seat ∷ slot ∷ [])
+parts_of (Go seat) = (codes "go", seat ∷ [])
+parts_of Step = (codes "step", [])
 
 -- one space, and the number
 abbrev pub spaced_number : ℕ → List ℕ
@@ -48,11 +31,11 @@ spaced_number n = 32 ∷ decimal n
 
 -- a word, and for each number one space and the number
 abbrev pub text_of : Command → List ℕ
-text_of command = command_word command ++ flat_map spaced_number (numbers_of command)
+text_of command = (parts_of command).0 ++ flat_map spaced_number (parts_of command).1
 
 -- each number has at most 64 bits
 abbrev pub IsWritable : Command → Type 0
-IsWritable command = AllByRecursion (λ n. n < 2 ^ 64) (numbers_of command)
+IsWritable command = AllByRecursion (λ n. n < 2 ^ 64) (parts_of command).1
 
 -- a line asks for the command that it writes, and for nothing if it writes none
 abbrev pub LineAsksFor : List ℕ → Option Command → Type 0

@@ -27,12 +27,6 @@ QueuePushGives adds old future reply new =
     ((reply ≡ Done) × (QueueIsFull old → ⊥) × adds old future new)
     ⊎ ((reply ≡ Full) × QueueIsFull old × (new ≡ old))
 
-abbrev pub BackGives : ScriptOrdered → ReadyAfter → Reply → ScriptOrdered → Type 0
-BackGives = QueuePushGives (AddsBack (PushesNumber Marks))
-
-abbrev pub FrontGives : ScriptOrdered → ReadyAfter → Reply → ScriptOrdered → Type 0
-FrontGives = QueuePushGives (AddsFront (PushesNumber Marks))
-
 -- one poll of the queue, of some task
 abbrev pub PollsOrderedLine : ScriptOrdered → PollAnswer (Option ℕ) → ScriptOrdered → Type 0
 PollsOrderedLine = OfSomeTask (PollsOrderedBounded script_rule script_source)
@@ -44,8 +38,8 @@ MarksQueue old slot woke new =
 
 -- what each command makes of the queue; any other command is `bad`
 abbrev pub QueueGives : ScriptOrdered → Command → Reply → ScriptOrdered → Type 0
-QueueGives old (Back future) reply new = BackGives old future reply new
-QueueGives old (Front future) reply new = FrontGives old future reply new
+QueueGives old (Back future) reply new = QueuePushGives (AddsBack (PushesNumber Marks)) old future reply new
+QueueGives old (Front future) reply new = QueuePushGives (AddsFront (PushesNumber Marks)) old future reply new
 QueueGives old (Wake slot) reply new =
     ((woke : Woke) × (reply ≡ woke_reply woke) × MarksQueue old slot woke new)
     ⊎ ((reply ≡ Bad) × (slot_count old.set.slots ≤ slot) × (new ≡ old))

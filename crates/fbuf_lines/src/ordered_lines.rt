@@ -1,7 +1,6 @@
 //! Commands to an ordered queue.
 ghost use Rattle.std.specs.Prelude.{◌≡◌, IfOk, OnErr};
 ghost use Rattle.futures.specs.Task.{Keeps};
-ghost use Rattle.fbuf_lines.specs.OrderedLines.{BackGives, FrontGives, PushMayLack};
 ghost use Rattle.fbuf_lines.specs.OrderedLines.{QueueGives, QueueMayLack};
 
 use crate::command::Command;
@@ -15,37 +14,7 @@ use std::alloc::AllocError;
 /// An ordered queue of the script's futures, over a ready core.
 pub type ScriptQueue = FuturesOrderedBounded<ReadyAfter, CoreSource>;
 
-// Adds a future at the back of an ordered queue. A refused future changes nothing.
-fn back_reply(queue: &mut ScriptQueue, future: ReadyAfter) -> Result<Reply, AllocError>
-    ensures reply { IfOk result (λ reply. BackGives queue.old future reply queue.new) }
-    ensures memory { OnErr result (queue.new ≡ queue.old) }
-    ensures refused { OnErr result (PushMayLack queue.old) }
-{
-    if queue.is_full() {
-        return Ok(Reply::Full);
-    }
-    match queue.try_push_back(future) {
-        Ok(()) => Ok(Reply::Done),
-        Err(_) => Err(AllocError),
-    }
-}
-
-// Adds a future as `back_reply` does, at the front.
-fn front_reply(queue: &mut ScriptQueue, future: ReadyAfter) -> Result<Reply, AllocError>
-    ensures reply { IfOk result (λ reply. FrontGives queue.old future reply queue.new) }
-    ensures memory { OnErr result (queue.new ≡ queue.old) }
-    ensures refused { OnErr result (PushMayLack queue.old) }
-{
-    if queue.is_full() {
-        return Ok(Reply::Full);
-    }
-    match queue.try_push_front(future) {
-        Ok(()) => Ok(Reply::Done),
-        Err(_) => Err(AllocError),
-    }
-}
-
-// Carries out a command on an ordered queue.
+// Carries out a command on an ordered queue. A refused future changes nothing.
 pub(crate) fn queue_reply(
     queue: &mut ScriptQueue,
     command: Command,
@@ -57,8 +26,15 @@ pub(crate) fn queue_reply(
     ensures kept { Keeps cx.old cx.new }
 {
     match command {
-        Command::Back(future) => back_reply(queue, future),
-        Command::Front(future) => front_reply(queue, future),
+        Command::Back(future) if !queue.is_full() => match queue.try_push_back(future) {
+            Ok(()) => Ok(Reply::Done),
+            Err(_) => Err(AllocError),
+        },
+        Command::Front(future) if !queue.is_full() => match queue.try_push_front(future) {
+            Ok(()) => Ok(Reply::Done),
+            Err(_) => Err(AllocError),
+        },
+        Command::Back(_) | Command::Front(_) => Ok(Reply::Full),
         Command::Wake(slot) if slot < queue.capacity() => {
             Ok(Reply::of_woke(queue.mark_slot(slot)))
         }

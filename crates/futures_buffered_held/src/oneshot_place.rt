@@ -233,6 +233,7 @@ impl<T: Drop, W: Drop> Place<T, W> {
     }
 
     /// Returns a second seat that knows what this one sent.
+    #[tactic(auto, using(crate::proofs::OneshotPlaceLemmas::receipts))]
     pub fn receipt(&self, seat: &mut Seat<T, W>) -> Seat<T, W>
         requires { seat.old.table_id ≡ self.now }
         ensures place { result.table_id ≡ self.now }
