@@ -7,13 +7,13 @@ use crate::holders::{
     Drained, FlightQueue, Flights, GrowingQueue, GrowingSet, Holder, Join, Joined, Queue, Refilled,
     Set, Whole, Yields,
 };
-use crate::items::{Feed, ForEach, Items, Ready, Sent};
+use crate::items::{Feed, ForEach, Items, KitQueue, Ready, Sent};
 use crate::one_shots::{KitOneShot, OneShot, OneShots};
 use crate::report::{RUNS, Report};
 use crate::sources::{Listed, TaskAlone, taking};
 use crate::waiting::{InSlot, InTask, Woken};
 use futures::StreamExt;
-use futures::stream::{FuturesOrdered as KitQueue, FuturesUnordered as KitSet};
+use futures::stream::FuturesUnordered as KitSet;
 use futures::task::Waker;
 use futures_buffered::buffer_unordered::BufferUnordered;
 use futures_buffered::buffered_ordered::BufferedOrdered;
@@ -171,7 +171,7 @@ impl<R: Clock + RandomSource + AllocGlobal + Print> Report<'_, R> {
         }
         for held in [16, 4_096] {
             self.queue::<FlightQueue>("in flight ordered", held)?;
-            self.queue::<KitQueue<Yields, ()>>("kit ordered", held)?;
+            self.queue::<KitQueue>("kit ordered", held)?;
         }
         Ok(())
     }
