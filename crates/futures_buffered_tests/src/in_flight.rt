@@ -1,6 +1,5 @@
 //! What lines of calls cannot say of a set of the kit's futures: what its users hold of it, what `extend` draws, and
 //! whom a future that waits for the next output wakes.
-use crate::same::assert_same;
 use futures::channel::mpsc::unbounded;
 use futures::channel::oneshot::{Canceled, Receiver, Sender, channel};
 use futures::task::{Context, Poll};
@@ -9,10 +8,10 @@ use futures::{Future, StreamExt};
 use futures_buffered::in_flight::MergeBounded;
 use futures_buffered_in_flight::{FuturesOrderedBounded, FuturesUnorderedBounded, Kept, Key};
 use std::alloc::{AllocGlobal, Global};
-use std::process::Abort;
 use std::test::Fail;
 use test_support::keep::keep;
 use test_support::pairs::pairs;
+use test_support::same::same;
 
 type Set = FuturesUnorderedBounded<Receiver<u64>>;
 
@@ -68,7 +67,7 @@ fn comes(
 
 // The first push is cancelled. The outputs of the other two come, that of the last one first.
 fn try_tags(
-    rt: &(impl AllocGlobal + Abort),
+    rt: &impl AllocGlobal,
     cx: &mut Context<'_>,
     set: &mut TextSet,
     senders: &mut Vec<Sender<u64>>,
@@ -76,20 +75,15 @@ fn try_tags(
     let first = push(rt, set, senders, "one")?;
     let second = push(rt, set, senders, "two")?;
     let third = push(rt, set, senders, "three")?;
-    assert_same(rt, push(rt, set, senders, "four")?, Err(true));
-    assert_same(rt, cancels(set, first, "one"), true);
-    assert_same(rt, cancels(set, first, "one"), false);
-    assert_same(rt, comes(cx, set, senders, 3, "three"), third);
-    assert_same(rt, comes(cx, set, senders, 2, "two"), second);
-    assert_same(
-        rt,
-        first.ok() < second.ok() && second.ok() < third.ok(),
-        true,
-    );
-    Ok(())
+    same(push(rt, set, senders, "four")?, Err(true))?;
+    same(cancels(set, first, "one"), true)?;
+    same(cancels(set, first, "one"), false)?;
+    same(comes(cx, set, senders, 3, "three"), third)?;
+    same(comes(cx, set, senders, 2, "two"), second)?;
+    same(first.ok() < second.ok() && second.ok() < third.ok(), true)
 }
 
-fn tagged(rt: &(impl AllocGlobal + Abort), cx: &mut Context<'_>) -> Result<(), Fail> {
+fn tagged(rt: &impl AllocGlobal, cx: &mut Context<'_>) -> Result<(), Fail> {
     let mut senders = Vec::new(rt.alloc());
     let mut set: TextSet = Kept::new(FuturesUnorderedBounded::new(rt.alloc(), 3)?);
     try_tags(rt, cx, &mut set, &mut senders)
@@ -132,10 +126,9 @@ fn merge_extended(alloc: Global) -> Result<Extended, Fail> {
 // The refused item comes back, and those after it are not drawn.
 #[test]
 fn extend_in_flight_stops_at_the_first_refusal(rt: HostRuntime) -> Result<(), Fail> {
-    assert_same(&rt, set_extended(rt.alloc())?, (true, 2, 2));
-    assert_same(&rt, queue_extended(rt.alloc())?, (true, 2, 2));
-    assert_same(&rt, merge_extended(rt.alloc())?, (true, 2, 2));
-    Ok(())
+    same(set_extended(rt.alloc())?, (true, 2, 2))?;
+    same(queue_extended(rt.alloc())?, (true, 2, 2))?;
+    same(merge_extended(rt.alloc())?, (true, 2, 2))
 }
 
 // Whether it is pending, and whether its task is woken then.
@@ -153,8 +146,7 @@ fn the_next_is_waited_for(rt: HostRuntime) -> Result<(), Fail> {
     let task = MockTask::new(&rt)?;
     let (_senders, receivers) = pairs(rt.alloc(), 1, || channel::<u64>(rt.alloc()).ok())?;
     let mut set = FuturesUnorderedBounded::from_iter(rt.alloc(), receivers)?;
-    assert_same(&rt, waits(&task, set.next()), (true, false));
-    Ok(())
+    same(waits(&task, set.next()), (true, false))
 }
 
 // Nor by an output.
@@ -164,9 +156,10 @@ fn the_next_that_is_there_wakes_nobody(rt: HostRuntime) -> Result<(), Fail> {
     let (mut senders, receivers) = pairs(rt.alloc(), 2, || channel::<u64>(rt.alloc()).ok())?;
     let mut set = FuturesUnorderedBounded::from_iter(rt.alloc(), receivers)?;
     let sent = senders.pop().map(|sender| sender.send(5));
-    assert_same(&rt, sent, Some(Ok(())));
-    assert_same(&rt, waits(&task, set.next()), (false, false));
-    Ok(())
+    same(
+        (sent, waits(&task, set.next())),
+        (Some(Ok(())), (false, false)),
+    )
 }
 
 #[test]
@@ -174,8 +167,7 @@ fn the_next_with_its_key_is_waited_for(rt: HostRuntime) -> Result<(), Fail> {
     let task = MockTask::new(&rt)?;
     let (_senders, receivers) = pairs(rt.alloc(), 1, || channel::<u64>(rt.alloc()).ok())?;
     let set = FuturesUnorderedBounded::from_iter(rt.alloc(), receivers)?;
-    assert_same(&rt, waits(&task, set.into_next()), (true, false));
-    Ok(())
+    same(waits(&task, set.into_next()), (true, false))
 }
 
 #[test]
@@ -183,8 +175,7 @@ fn the_front_is_waited_for(rt: HostRuntime) -> Result<(), Fail> {
     let task = MockTask::new(&rt)?;
     let (_senders, receivers) = pairs(rt.alloc(), 1, || channel::<u64>(rt.alloc()).ok())?;
     let queue: Queue = FuturesOrderedBounded::from_iter(rt.alloc(), receivers)?;
-    assert_same(&rt, waits(&task, queue.into_next()), (true, false));
-    Ok(())
+    same(waits(&task, queue.into_next()), (true, false))
 }
 
 #[test]
@@ -192,7 +183,9 @@ fn the_next_of_a_merge_is_waited_for(rt: HostRuntime) -> Result<(), Fail> {
     let task = MockTask::new(&rt)?;
     let (_sender, stream) = unbounded::<u64>(rt.alloc())?;
     let mut merge = MergeBounded::new(rt.alloc(), 2);
-    assert_same(&rt, merge.try_push(stream).is_ok(), true);
-    assert_same(&rt, waits(&task, merge.into_next()), (true, false));
-    Ok(())
+    let is_pushed = merge.try_push(stream).is_ok();
+    same(
+        (is_pushed, waits(&task, merge.into_next())),
+        (true, (true, false)),
+    )
 }
