@@ -1,46 +1,56 @@
-//! What a channel refuses, and senders on threads.
+//! Channels in a merge, what a channel refuses, and senders on threads.
+use crate::show::{Host, print_all};
 use futures::executor::block_on;
 use futures::{Stream, StreamExt};
 use futures_buffered::MergeBounded;
 use futures_buffered::spsc::{Receiver, Sender, TrySendError, channel};
-use std::alloc::{AllocError, AllocGlobal};
+use std::alloc::AllocError;
 use std::fmt::Display;
-use std::io::Print;
-use std::random::RandomSource;
-use std::sync::Wait;
 use std::thread::{self, JoinHandle, Threads};
 
-pub fn refusals<R: AllocGlobal + Print>(rt: &R) -> Result<(), anyhow::Error> {
+pub fn three_senders(rt: &impl Host) -> anyhow::Result<()> {
+    let (mut first, one) = channel::<u64>(rt.alloc(), 4)?;
+    let (mut second, two) = channel(rt.alloc(), 4)?;
+    let (mut third, three) = channel(rt.alloc(), 4)?;
+    let merge = MergeBounded::from_iter(rt.alloc(), vec![in rt.alloc(); one, two, three]?)?;
+    let _ = first.try_send(1);
+    let _ = first.try_send(2);
+    let _ = second.try_send(10);
+    let _ = third.try_send(20);
+    drop((first, second, third));
+    print_all(rt, merge)
+}
+
+pub fn refusals(rt: &impl Host) -> anyhow::Result<()> {
     of_a_full_channel(rt)?;
     of_an_empty_channel(rt)
 }
 
-fn of_a_full_channel<R: AllocGlobal + Print>(rt: &R) -> Result<(), anyhow::Error> {
+fn of_a_full_channel(rt: &impl Host) -> anyhow::Result<()> {
     let (mut sender, mut receiver) = channel::<u64>(rt.alloc(), 1)?;
     try_both(rt, &mut sender, &mut receiver)?;
     drop(receiver);
     print_refusal(rt, sender.try_send(3))
 }
 
-fn try_both<R: Print>(
-    rt: &R,
+fn try_both(
+    rt: &impl Host,
     sender: &mut Sender<u64>,
     receiver: &mut Receiver<u64>,
-) -> Result<(), anyhow::Error> {
+) -> anyhow::Result<()> {
     print_refusal(rt, receiver.try_recv())?;
     print_refusal(rt, sender.try_send(1))?;
     print_refusal(rt, sender.try_send(2))
 }
 
-fn of_an_empty_channel<R: AllocGlobal + Print>(rt: &R) -> Result<(), anyhow::Error> {
+fn of_an_empty_channel(rt: &impl Host) -> anyhow::Result<()> {
     let (sender, mut receiver) = channel::<u64>(rt.alloc(), 1)?;
     drop(sender);
     print_refusal(rt, receiver.try_recv())
 }
 
-fn print_refusal<R, T, E>(rt: &R, answer: Result<T, E>) -> Result<(), anyhow::Error>
+fn print_refusal<T, E>(rt: &impl Host, answer: Result<T, E>) -> anyhow::Result<()>
 where
-    R: Print,
     T: Drop,
     E: Display + Drop,
 {
@@ -91,18 +101,14 @@ fn keep<T: Drop>(row: &mut Vec<T>, item: T) -> Result<(), AllocError> {
     Ok(())
 }
 
-fn start_one<R: AllocGlobal + Threads>(
-    rt: &R,
-    started: &mut Started,
-    from: u64,
-) -> Result<(), anyhow::Error> {
+fn start_one(rt: &(impl Host + Threads), started: &mut Started, from: u64) -> anyhow::Result<()> {
     let (sender, receiver) = channel(rt.alloc(), 7)?;
     keep(&mut started.receivers, receiver)?;
     let thread = thread::spawn(rt, move || send_all(sender, from))?;
     Ok(keep(&mut started.threads, thread)?)
 }
 
-fn start_three<R: AllocGlobal + Threads>(rt: &R) -> Result<Started, anyhow::Error> {
+fn start_three(rt: &(impl Host + Threads)) -> anyhow::Result<Started> {
     let mut started = Started {
         receivers: Vec::new(rt.alloc()),
         threads: Vec::new(rt.alloc()),
@@ -114,9 +120,8 @@ fn start_three<R: AllocGlobal + Threads>(rt: &R) -> Result<Started, anyhow::Erro
 }
 
 // All that the stream gives.
-fn collected<R, St>(rt: &R, stream: St) -> Result<Vec<u64>, anyhow::Error>
+fn collected<St>(rt: &impl Host, stream: St) -> anyhow::Result<Vec<u64>>
 where
-    R: Wait + RandomSource + AllocGlobal,
     St: Stream<Item = u64>,
     requires { St.can_poll stream }
 {
@@ -124,20 +129,17 @@ where
 }
 
 // All that the receivers give.
-fn all_of<R>(rt: &R, receivers: Vec<Receiver<u64>>) -> Result<Vec<u64>, anyhow::Error>
-where
-    R: Wait + RandomSource + AllocGlobal,
-{
+fn all_of(rt: &impl Host, receivers: Vec<Receiver<u64>>) -> anyhow::Result<Vec<u64>> {
     collected(rt, MergeBounded::from_iter(rt.alloc(), receivers)?)
 }
 
-fn join_each<R: Threads>(rt: &R, threads: Vec<JoinHandle<()>>) {
+fn join_each(rt: &impl Threads, threads: Vec<JoinHandle<()>>) {
     for thread in threads {
         thread.join(rt);
     }
 }
 
-fn print_turns<R: Print>(rt: &R, all: &[u64]) -> Result<(), anyhow::Error> {
+fn print_turns(rt: &impl Host, all: &[u64]) -> anyhow::Result<()> {
     let next = all.iter().fold(Some([0, EACH, EACH * 2]), |next, came| turn_of(next, *came));
     println!(rt;
         "{} in order: {}",
@@ -147,10 +149,7 @@ fn print_turns<R: Print>(rt: &R, all: &[u64]) -> Result<(), anyhow::Error> {
     Ok(())
 }
 
-pub fn senders_on_threads<R>(rt: &R) -> Result<(), anyhow::Error>
-where
-    R: Wait + RandomSource + AllocGlobal + Print + Threads,
-{
+pub fn senders_on_threads(rt: &(impl Host + Threads)) -> anyhow::Result<()> {
     let Started { receivers, threads } = start_three(rt)?;
     let all = all_of(rt, receivers);
     join_each(rt, threads);

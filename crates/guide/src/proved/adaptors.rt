@@ -2,17 +2,13 @@
 ghost use Rattle.std.specs.Prelude.{◌≡◌, ◌*◌, map, IfOk};
 
 use crate::proved::doubling::Doubling;
+use crate::show::Host;
 use futures::executor::block_on;
 use futures::{StreamExt, stream};
 use futures_buffered::BufferedStreamExt;
-use std::alloc::AllocGlobal;
-use std::random::RandomSource;
-use std::sync::Wait;
 
 /// Twice the number of each job, in the order of the jobs, with at most three held at a time.
-pub fn doubled<R>(rt: &R, jobs: Vec<Doubling>) -> Result<Vec<u64>, anyhow::Error>
-where
-    R: Wait + RandomSource + AllocGlobal,
+pub fn doubled(rt: &impl Host, jobs: Vec<Doubling>) -> anyhow::Result<Vec<u64>>
     ensures { IfOk result (λ outputs. outputs.items ≡ map (λ job. 2 * job.number) jobs.items) }
 {
     let outputs = stream::iter(jobs).buffered_ordered(rt.alloc(), 3)?;

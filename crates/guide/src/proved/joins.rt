@@ -2,16 +2,12 @@
 ghost use Rattle.std.specs.Prelude.{◌≡◌, vec_len, IfOk};
 
 use crate::proved::doubling::Doubling;
+use crate::show::Host;
 use futures::executor::block_on;
 use futures_buffered::join_all;
-use std::alloc::AllocGlobal;
-use std::random::RandomSource;
-use std::sync::Wait;
 
 /// One output of each job, together in one vector.
-pub fn all_outputs<R>(rt: &R, jobs: Vec<Doubling>) -> Result<Vec<u64>, anyhow::Error>
-where
-    R: Wait + RandomSource + AllocGlobal,
+pub fn all_outputs(rt: &impl Host, jobs: Vec<Doubling>) -> anyhow::Result<Vec<u64>>
     ensures { IfOk result (λ outputs. vec_len outputs ≡ vec_len jobs) }
 {
     let join = join_all(rt.alloc(), jobs)?;

@@ -3,12 +3,10 @@ ghost use Rattle.std.specs.Prelude.{◌≡◌, ◌+◌, ◌≤◌, length, vec_l
 ghost use Rattle.futures_buffered.specs.FuturesUnorderedBounded.{held_in, slots_in};
 
 use crate::proved::doubling::Doubling;
+use crate::show::Host;
 use futures::StreamExt;
 use futures::executor::block_on;
 use futures_buffered::{FuturesUnorderedBounded, SharedReady};
-use std::alloc::AllocGlobal;
-use std::random::RandomSource;
-use std::sync::Wait;
 
 /// Adds a future for each number, if there is room for all of them.
 pub fn push_each(set: &mut FuturesUnorderedBounded<Doubling, SharedReady>, numbers: &[u32])
@@ -23,12 +21,10 @@ pub fn push_each(set: &mut FuturesUnorderedBounded<Doubling, SharedReady>, numbe
 }
 
 /// The outputs of a set, as many as it holds futures.
-pub fn all_outputs<R>(
-    rt: &R,
+pub fn all_outputs(
+    rt: &impl Host,
     set: FuturesUnorderedBounded<Doubling, SharedReady>,
-) -> Result<Vec<u64>, anyhow::Error>
-where
-    R: Wait + RandomSource + AllocGlobal,
+) -> anyhow::Result<Vec<u64>>
     ensures { IfOk result (λ outputs. vec_len outputs ≡ held_in set) }
 {
     Ok(block_on(rt, set.collect(rt.alloc()))??)
