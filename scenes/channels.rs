@@ -2,7 +2,7 @@
 use crate::Host;
 use crate::polled::Polled;
 use crate::tasks::{drain, join_threads, wanted};
-use anyhow::bail;
+use anyhow::{Context, bail, ensure};
 use futures::StreamExt;
 use futures::task::Poll;
 use futures::test::MockTask;
@@ -90,9 +90,7 @@ pub fn sender_finishes(rt: &impl Host, places: usize, items: usize) -> anyhow::R
     };
     let thread = thread::spawn(rt, send_and_finish)?;
     let came = polled.receive(rt, usize::MAX, false)?;
-    let Some(mut finished) = thread.join(rt) else {
-        bail!("the receiver is taken for gone");
-    };
+    let mut finished = thread.join(rt).context("the receiver is taken for gone")?;
     wanted(polled.receiver.compare_finished(&mut finished), &[0])?;
     wanted(came, &[items])
 }
@@ -108,9 +106,7 @@ fn send_and_stay(
     let (sender, mut polled) = open(alloc, places)?;
     let thread = thread::spawn(rt, move || send_all(alloc, sender, items))?;
     let came = polled.receive(rt, items, moves)?;
-    let Some(sender) = thread.join(rt) else {
-        bail!("the receiver is taken for gone");
-    };
+    let sender = thread.join(rt).context("the receiver is taken for gone")?;
     wanted(came, &[items])?;
     Ok((sender, polled))
 }
@@ -132,9 +128,10 @@ pub fn marks_once(rt: &impl Host) -> anyhow::Result<()> {
     let (mut sender, mut polled) = send_and_stay(rt, 2, 1, false)?;
     let is_marked = polled.source.take() == Taken::Slot(0);
     let _sent = sender.try_send(Box::new(rt.alloc(), 1u64)?).is_ok();
-    if is_marked && polled.source.take() == Taken::Slot(0) {
-        bail!("the slot is marked twice");
-    }
+    ensure!(
+        !is_marked || polled.source.take() != Taken::Slot(0),
+        "the slot is marked twice"
+    );
     Ok(())
 }
 
@@ -167,9 +164,10 @@ pub fn sender_looks(rt: &impl Host, places: usize) -> anyhow::Result<()> {
     let _came = polled.receiver.poll_next(&polled.wakers[0]).is_ready();
     drop(polled.receiver);
     let (is_closed, is_sent) = thread.join(rt);
-    if is_closed && is_sent {
-        bail!("an item was sent to a receiver that was gone");
-    }
+    ensure!(
+        !is_closed || !is_sent,
+        "an item was sent to a receiver that was gone"
+    );
     Ok(())
 }
 

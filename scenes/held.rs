@@ -4,7 +4,7 @@ use crate::awaited::{Post, new_awaited, several, take_waker, wake_all, wake_by, 
 use crate::holders::Holder;
 use crate::tally::wake_often;
 use crate::tasks::{drain, each_came, join_threads, wait_for, wanted};
-use anyhow::bail;
+use anyhow::{Context, bail, ensure};
 use futures::executor::block_on;
 use futures::task::Poll;
 use futures::test::MockTask;
@@ -116,9 +116,7 @@ pub fn moved<H: Holder>(rt: &impl Host, count: usize, wakes: usize) -> anyhow::R
     let mut begun = Begun::<H>::new(rt, count, wakes, 0)?;
     let came = drain(rt, &other, &mut begun.holder);
     join_threads(rt, begun.threads);
-    if !begun.task.is_woken() {
-        bail!("the first task sleeps");
-    }
+    ensure!(begun.task.is_woken(), "the first task sleeps");
     each_came(count, came, H::is_ordered())
 }
 
@@ -127,9 +125,7 @@ pub fn dropped<H: Holder>(rt: &impl Host, count: usize, wakes: usize) -> anyhow:
     let begun = Begun::<H>::new(rt, count, wakes, 0)?;
     drop(begun.holder);
     join_threads(rt, begun.threads);
-    if !begun.task.is_woken() {
-        bail!("the task sleeps");
-    }
+    ensure!(begun.task.is_woken(), "the task sleeps");
     Ok(())
 }
 
@@ -156,9 +152,7 @@ pub fn one_by_one<H: Holder>(rt: &impl Host, wakes: usize) -> anyhow::Result<()>
     let mut begun = Begun::<H>::asleep(rt, 2, wakes)?;
     let first = wake_from_thread(rt, &begun.posts[0], wakes)?;
     let _ = begun.threads.push(first);
-    let Some(second) = take_waker(&begun.posts[1]) else {
-        bail!("the second future has left no waker");
-    };
+    let second = take_waker(&begun.posts[1]).context("the second future has left no waker")?;
     begun.take_first(rt)?;
     wake_often(&begun.posts[1].woken, &second, wakes);
     wanted(begun.finish(rt), &[2])

@@ -2,7 +2,7 @@
 use crate::Host;
 use crate::awaited::{Post, several, wake_all};
 use crate::tasks::{join_threads, wait_for};
-use anyhow::bail;
+use anyhow::{bail, ensure};
 use futures::Future;
 use futures::task::Poll;
 use futures::test::MockTask;
@@ -37,11 +37,14 @@ pub fn join(rt: &impl Host, count: usize, wakes: usize) -> anyhow::Result<()> {
     let (held, posts) = several(rt.alloc(), count, wakes)?;
     let mut join = join_all(rt.alloc(), held)?;
     let outputs = complete(rt, &task, &mut join, &posts, wakes)?;
-    for place in 0..count {
-        if outputs.len() != count || outputs[place] != place {
-            bail!("an output is at another place");
-        }
-    }
+    let are_in_place = outputs
+        .iter()
+        .enumerate()
+        .all(|(place, output)| *output == place);
+    ensure!(
+        outputs.len() == count && are_in_place,
+        "an output is at another place"
+    );
     Ok(())
 }
 

@@ -19,7 +19,7 @@ mod tally;
 mod tasks;
 
 use crate::holders::{GrowingMerge, GrowingQueue, GrowingSet, Holder, Merge, Queue, Set};
-use anyhow::bail;
+use anyhow::{Context, bail};
 use std::alloc::AllocGlobal;
 use std::env;
 use std::env::Env;
@@ -36,9 +36,7 @@ impl<R: Threads + Wait + RandomSource + AllocGlobal> Host for R {}
 fn read_words(rt: &(impl Env + AllocGlobal)) -> anyhow::Result<(String, String, [usize; 3])> {
     let mut words = env::args(rt)?;
     words.next();
-    let Some(scene) = words.next() else {
-        bail!("usage: scenes SCENE WORD..");
-    };
+    let scene = words.next().context("usage: scenes SCENE WORD..")?;
     let mut kind = String::new(rt.alloc());
     let (mut numbers, mut count) = ([0usize; 3], 0usize);
     for word in words {

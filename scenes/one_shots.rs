@@ -1,7 +1,7 @@
 //! A one-shot whose sender is on a thread, and whose receiver is polled meanwhile.
 use crate::Host;
 use crate::polled::Polled;
-use anyhow::bail;
+use anyhow::{Context, bail, ensure};
 use futures::task::Poll;
 use futures_buffered::SlotFuture;
 use futures_buffered_core::ready_core::Taken;
@@ -49,9 +49,10 @@ impl Polled<Receiver<Item>> {
             return Ok((answer, given));
         }
         let (first, second) = (self.source.take(), self.source.take());
-        if polls > 0 && first != Taken::Slot(last) && second != Taken::Slot(last) {
-            bail!("no wake of the slot of the last poll");
-        }
+        ensure!(
+            polls == 0 || [first, second].contains(&Taken::Slot(last)),
+            "no wake of the slot of the last poll"
+        );
         match self.receiver.poll(&self.wakers[last]) {
             Poll::Ready(answer) => Ok((answer, given)),
             Poll::Pending => bail!("the sender is done, and no answer came"),
@@ -69,9 +70,7 @@ pub fn sent(rt: &impl Host, polls: usize, last: usize) -> anyhow::Result<()> {
     let (sender, value, mut polled) = open(rt)?;
     let thread = thread::spawn(rt, move || sender.send(value).is_ok())?;
     let (answer, is_sent) = polled.receive(rt, thread, polls, last)?;
-    if !is_value(&answer) || !is_sent {
-        bail!("another answer");
-    }
+    ensure!(is_value(&answer) && is_sent, "another answer");
     Ok(())
 }
 
@@ -80,13 +79,10 @@ pub fn sent_with_receipt(rt: &impl Host, polls: usize) -> anyhow::Result<()> {
     let (sender, value, mut polled) = open(rt)?;
     let thread = thread::spawn(rt, move || sender.send_with_receipt(value).ok())?;
     let (answer, receipt) = polled.receive(rt, thread, polls, 0)?;
-    let Some(receipt) = receipt else {
-        bail!("the value came back");
-    };
-    receipt.compare(&mut polled.receiver);
-    if !is_value(&answer) {
-        bail!("another answer");
-    }
+    receipt
+        .context("the value came back")?
+        .compare(&mut polled.receiver);
+    ensure!(is_value(&answer), "another answer");
     Ok(())
 }
 
@@ -95,9 +91,7 @@ pub fn sender_goes(rt: &impl Host, polls: usize, last: usize) -> anyhow::Result<
     let (sender, _value, mut polled) = open(rt)?;
     let thread = thread::spawn(rt, move || drop(sender))?;
     let (answer, ()) = polled.receive(rt, thread, polls, last)?;
-    if answer.is_ok() {
-        bail!("a value came, and none was sent");
-    }
+    ensure!(answer.is_err(), "a value came, and none was sent");
     Ok(())
 }
 
@@ -125,8 +119,9 @@ pub fn sender_looks(rt: &impl Host, polls: usize) -> anyhow::Result<()> {
     };
     let thread = thread::spawn(rt, look_and_send)?;
     let (answer, is_gone) = polled.receive(rt, thread, polls, 0)?;
-    if !is_value(&answer) || is_gone {
-        bail!("another answer, or the receiver is taken for gone");
-    }
+    ensure!(
+        is_value(&answer) && !is_gone,
+        "another answer, or the receiver is taken for gone"
+    );
     Ok(())
 }

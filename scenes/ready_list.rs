@@ -3,7 +3,7 @@ use crate::Host;
 use crate::outer::Bed;
 use crate::tally::Tally;
 use crate::tasks::join_threads;
-use anyhow::bail;
+use anyhow::ensure;
 use futures_buffered_core::ready_core::{Taken, Woke};
 use futures_buffered_core::ready_shared::SharedReady;
 use futures_buffered_table::ready_table::{PollSeat, ReadyList, WakeSeat};
@@ -96,13 +96,13 @@ pub fn seats(rt: &impl Host, takings: usize) -> anyhow::Result<()> {
     let (_one, fresh) = one.join(rt);
     let (_other, fresh_too) = other.join(rt);
     let afterwards = take_often(&list, &mut poll, 3);
-    if meanwhile + afterwards != fresh + fresh_too {
-        bail!(
-            "{fresh} and {fresh_too} wakes were fresh, and {meanwhile} and {afterwards} slots were named"
-        );
-    }
-    if list.take(&mut poll) != Taken::Empty {
-        bail!("a slot is named twice");
-    }
+    ensure!(
+        meanwhile + afterwards == fresh + fresh_too,
+        "{fresh} and {fresh_too} wakes were fresh, and {meanwhile} and {afterwards} slots were named"
+    );
+    ensure!(
+        list.take(&mut poll) == Taken::Empty,
+        "a slot is named twice"
+    );
     Ok(())
 }

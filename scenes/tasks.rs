@@ -1,7 +1,7 @@
 //! A source that a task polls by hand.
 use crate::Host;
 use crate::tally::{Tally, wake_often};
-use anyhow::bail;
+use anyhow::{bail, ensure};
 use futures::Stream;
 use futures::task::Poll;
 use futures::test::MockTask;
@@ -42,9 +42,7 @@ pub fn join_threads(rt: &impl Host, threads: Vec<JoinHandle<()>>) {
 
 /// One of these numbers came.
 pub fn wanted(came: usize, any_of: &[usize]) -> anyhow::Result<()> {
-    if !any_of.contains(&came) {
-        bail!("{came} came");
-    }
+    ensure!(any_of.contains(&came), "{came} came");
     Ok(())
 }
 
@@ -116,9 +114,10 @@ pub fn other_task(rt: &impl Host, wakes: usize) -> anyhow::Result<()> {
     let thread = tally.start(rt, &source[0], 0, 0, wakes)?;
     poll_until_known(rt, &other, &mut source, &mut tally);
     thread.join(rt);
-    if !first.is_woken() {
-        bail!("the first task sleeps, and nobody keeps its waker");
-    }
+    ensure!(
+        first.is_woken(),
+        "the first task sleeps, and nobody keeps its waker"
+    );
     Ok(())
 }
 
@@ -131,9 +130,7 @@ pub fn dropped_source(rt: &impl Host, wakes: usize) -> anyhow::Result<()> {
     let thread = tally.start(rt, &source[0], 0, 0, wakes)?;
     drop(source);
     thread.join(rt);
-    if !task.is_woken() {
-        bail!("the task sleeps");
-    }
+    ensure!(task.is_woken(), "the task sleeps");
     Ok(())
 }
 
