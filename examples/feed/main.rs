@@ -36,8 +36,8 @@ struct Source {
 }
 
 // The files of the folder, in the order of their names. Nothing came of them yet.
-fn sources_in<R: Files + AllocGlobal + Clone + Drop>(
-    rt: &R,
+fn sources_in(
+    rt: &(impl Files + AllocGlobal + Clone + Drop),
     folder: &str,
 ) -> io::Result<Vec<Source>> {
     let mut sources = Vec::new(rt.alloc());
@@ -64,15 +64,12 @@ fn lines_of(alloc: Global, source: usize, text: &str) -> io::Result<Vec<Line>> {
 }
 
 // Sends the lines of a file in their order. It waits while the channel is full.
-fn send_lines<R>(
-    rt: &R,
+fn send_lines(
+    rt: &(impl Files + Wait + RandomSource + AllocGlobal),
     source: usize,
     path: &str,
     sender: Sender<Line>,
-) -> Result<(), anyhow::Error>
-where
-    R: Files + Wait + RandomSource + AllocGlobal,
-{
+) -> anyhow::Result<()> {
     let text = fs::read_to_string(rt, path)?;
     let lines = lines_of(rt.alloc(), source, text.as_str())?;
     block_on(rt, stream::iter(lines).map(Ok).forward(sender))??;
@@ -90,7 +87,7 @@ fn print_counts<R: Print>(rt: &R, sources: &[Source]) -> io::Result<()> {
     println!(rt; "{total} lines")
 }
 
-fn main(rt: HostRuntime) -> Result<(), anyhow::Error> {
+fn main(rt: HostRuntime) -> anyhow::Result<()> {
     let folder = Words::new(&rt, "feed FOLDER")?.text()?;
     let mut sources = sources_in(&rt, folder.as_str())?;
     let (mut streams, mut threads) = (Vec::new(rt.alloc()), Vec::new(rt.alloc()));
