@@ -5,16 +5,12 @@
 //!
 //! - `doubling`: a future whose contract says what a poll answers.
 //! - `ticket`: a future that may not be polled again once it is ready.
-//! - `sets`, `queues`, `joins`, `merges`, `adaptors`, `channels`: a caller of each family.
+//! - `callers`, `channels`: a caller of each family.
 //!
 //! Below, the callers are called.
-mod adaptors;
+mod callers;
 mod channels;
 mod doubling;
-mod joins;
-mod merges;
-mod queues;
-mod sets;
 mod ticket;
 
 use crate::numbers::Numbers;
@@ -34,22 +30,22 @@ fn jobs(rt: &impl Host) -> anyhow::Result<Vec<Doubling>> {
 
 pub fn set(rt: &impl Host) -> anyhow::Result<()> {
     let mut set = FuturesUnorderedBounded::new(rt.alloc(), 3)?;
-    sets::push_each(&mut set, &[1, 2, 3]);
-    let outputs = sets::all_outputs(rt, set)?;
+    callers::push_each(&mut set, &[1, 2, 3]);
+    let outputs = callers::set_outputs(rt, set)?;
     println!(rt; "{outputs:?}")?;
     Ok(())
 }
 
 pub fn queue(rt: &impl Host) -> anyhow::Result<()> {
     let queue = FuturesOrderedBounded::from_iter(rt.alloc(), jobs(rt)?)?;
-    let outputs = queues::all_outputs(rt, queue)?;
+    let outputs = callers::queue_outputs(rt, queue)?;
     println!(rt; "{outputs:?}")?;
     Ok(())
 }
 
 pub fn join_and_adaptor(rt: &impl Host) -> anyhow::Result<()> {
-    let together = joins::all_outputs(rt, jobs(rt)?)?;
-    let in_order = adaptors::doubled(rt, jobs(rt)?)?;
+    let together = callers::join_outputs(rt, jobs(rt)?)?;
+    let in_order = callers::doubled(rt, jobs(rt)?)?;
     println!(rt; "{together:?}, {in_order:?}")?;
     Ok(())
 }
@@ -57,7 +53,7 @@ pub fn join_and_adaptor(rt: &impl Host) -> anyhow::Result<()> {
 pub fn merge(rt: &impl Host) -> anyhow::Result<()> {
     let streams = vec![in rt.alloc(); Numbers { next: 0, end: 1 }]?;
     let mut merge = MergeBounded::from_iter(rt.alloc(), streams)?;
-    let added = merges::add_if_free(&mut merge, Numbers { next: 1, end: 2 });
+    let added = callers::add_if_free(&mut merge, Numbers { next: 1, end: 2 });
     println!(rt; "{added}")?;
     Ok(())
 }
