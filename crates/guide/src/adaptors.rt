@@ -1,5 +1,5 @@
 //! Adaptors of a stream.
-use crate::ready_after::{Pause, after};
+use crate::own::{Pause, after};
 use crate::show::{Host, print_all};
 use futures::executor::block_on;
 use futures::{StreamExt, stream};

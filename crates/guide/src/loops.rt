@@ -1,5 +1,5 @@
 //! Sets that are pushed into while they are drained.
-use crate::ready_after::{ReadyAfter, after};
+use crate::own::{ReadyAfter, after};
 use crate::show::Host;
 use futures::executor::block_on;
 use futures::task::{Context, Poll};

@@ -2,12 +2,10 @@
 #![tactic(auto)]
 
 mod adaptors;
-mod checked;
 mod in_flight;
 mod loops;
-mod numbers;
+mod own;
 mod proved;
-mod ready_after;
 mod senders;
 mod sets;
 mod show;

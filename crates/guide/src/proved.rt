@@ -13,7 +13,7 @@ mod channels;
 mod doubling;
 mod ticket;
 
-use crate::numbers::Numbers;
+use crate::own::Numbers;
 use crate::proved::doubling::Doubling;
 use crate::show::Host;
 use futures_buffered::spsc::with_protocol;

@@ -1,5 +1,5 @@
 //! Sets, also of futures that come with the library.
-use crate::ready_after::after;
+use crate::own::after;
 use crate::show::{Host, print_all};
 use futures_buffered::future::{map, ready};
 use futures_buffered::oneshot::Canceled;

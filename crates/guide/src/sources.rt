@@ -1,5 +1,5 @@
 //! Sources, and the parts that sets stand on.
-use crate::checked::Half;
+use crate::own::Half;
 use crate::show::{Host, print_all};
 use futures::StreamExt;
 use futures::executor::block_on;
