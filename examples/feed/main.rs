@@ -8,9 +8,8 @@ mod words;
 use crate::words::Words;
 use futures::channel::mpsc::{Sender, channel};
 use futures::executor::block_on;
-use futures::{StreamExt, future, stream};
+use futures::{SinkExt, StreamExt, future};
 use futures_buffered::in_flight::IterExt;
-use std::alloc::Global;
 use std::io::Print;
 use std::random::RandomSource;
 use std::rt::Files;
@@ -54,25 +53,18 @@ fn sources_in(
     Ok(sources)
 }
 
-fn lines_of(alloc: Global, source: usize, text: &str) -> io::Result<Vec<Line>> {
-    let mut lines = Vec::new(alloc);
-    for line in text.lines() {
-        let text = String::from_str(alloc, line)?;
-        lines.push(Line { source, text })?;
-    }
-    Ok(lines)
-}
-
 // Sends the lines of a file in their order. It waits while the channel is full.
 fn send_lines(
     rt: &(impl Files + Wait + RandomSource + AllocGlobal),
     source: usize,
     path: &str,
-    sender: Sender<Line>,
+    mut sender: Sender<Line>,
 ) -> anyhow::Result<()> {
     let text = fs::read_to_string(rt, path)?;
-    let lines = lines_of(rt.alloc(), source, text.as_str())?;
-    block_on(rt, stream::iter(lines).map(Ok).forward(sender))??;
+    for line in text.lines() {
+        let text = String::from_str(rt.alloc(), line)?;
+        sender = block_on(rt, sender.send(Line { source, text }))??;
+    }
     Ok(())
 }
 
