@@ -84,10 +84,7 @@ pub fn sender_goes(rt: &impl Host, places: usize, items: usize) -> Result<()> {
 pub fn sender_finishes(rt: &impl Host, places: usize, items: usize) -> Result<()> {
     let alloc = rt.alloc();
     let (sender, mut polled) = open(alloc, places)?;
-    let send_and_finish = move || match send_all(alloc, sender, items) {
-        Some(sender) => sender.finish(),
-        None => None,
-    };
+    let send_and_finish = move || send_all(alloc, sender, items).and_then(|sender| sender.finish());
     let thread = thread::spawn(rt, send_and_finish)?;
     let came = polled.receive(rt, usize::MAX, false)?;
     let mut finished = thread.join(rt).context("the receiver is taken for gone")?;
