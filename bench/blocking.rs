@@ -1,24 +1,23 @@
 //! Outputs that a thread waits for by `block_on`.
 use crate::holders::{Set, ready_set};
-use crate::report::tenths;
+use crate::report::{Host, tenths};
 use crate::sources::keep;
 use futures::executor::block_on;
 use futures::{StreamExt, future};
 use futures_buffered_held::oneshot::{Receiver, Sender, channel};
-use std::alloc::{AllocError, AllocGlobal, Global};
-use std::random::RandomSource;
+use std::alloc::{AllocError, Global};
 use std::sync::Wait;
 use std::sync::atomic::AtomicU64;
 use std::sync::atomic::Ordering::SeqCst;
 use std::thread::{Threads, yield_now};
-use std::time::{Clock, Instant};
+use std::time::Instant;
 use std::{io, thread};
 
 /// How many outputs one run waits for.
 const OUTPUTS: u64 = 1_000;
 
 /// The time of an output where each is waited for by a `block_on` of its own, in tenths of a nanosecond.
-pub fn one_by_one<R: Clock + RandomSource + AllocGlobal + Wait>(rt: &R) -> io::Result<u128> {
+pub fn one_by_one(rt: &(impl Host + Wait)) -> io::Result<u128> {
     let mut set = ready_set(rt.alloc(), OUTPUTS as usize);
     let start = Instant::now(rt)?;
     for _ in 0..OUTPUTS {
@@ -28,7 +27,7 @@ pub fn one_by_one<R: Clock + RandomSource + AllocGlobal + Wait>(rt: &R) -> io::R
 }
 
 /// The same, where one `block_on` waits for all.
-pub fn all_in_one<R: Clock + RandomSource + AllocGlobal + Wait>(rt: &R) -> io::Result<u128> {
+pub fn all_in_one(rt: &(impl Host + Wait)) -> io::Result<u128> {
     let set = ready_set(rt.alloc(), OUTPUTS as usize);
     let start = Instant::now(rt)?;
     let _ = block_on(rt, set.for_each(|_output| future::ready(())));
@@ -61,11 +60,7 @@ fn send_each(asked: &AtomicU64, senders: &mut Vec<Sender<u64>>) {
 }
 
 // Asks for each in the same order, and waits for its output, by a set of one slot.
-fn take_each<R: Wait + RandomSource + AllocGlobal>(
-    rt: &R,
-    asked: &AtomicU64,
-    receivers: &mut Vec<Receiver<u64>>,
-) {
+fn take_each(rt: &(impl Host + Wait), asked: &AtomicU64, receivers: &mut Vec<Receiver<u64>>) {
     let Ok(mut set) = Set::new(rt.alloc(), 1) else {
         return;
     };
@@ -93,10 +88,7 @@ fn add_channels(
 
 /// One thread pushes a receiver into an empty set, tells another, and waits for the output by `block_on`; the other
 /// sends at once: the time of one round, in tenths of a nanosecond.
-pub fn handed_over<R>(rt: &R) -> io::Result<u128>
-where
-    R: Clock + RandomSource + AllocGlobal + Threads + Wait + Sync,
-{
+pub fn handed_over(rt: &(impl Host + Threads + Wait + Sync)) -> io::Result<u128> {
     let (mut senders, mut receivers) = (Vec::new(rt.alloc()), Vec::new(rt.alloc()));
     add_channels(rt.alloc(), &mut senders, &mut receivers)?;
     let asked = AtomicU64::new(0);

@@ -4,7 +4,7 @@ use crate::items::Items;
 use crate::report::Workload;
 use futures::channel::mpsc as kit;
 use futures::stream::{SelectAll, select_all};
-use futures::task::Context;
+use futures::task::{Context, Poll};
 use futures_buffered::in_flight;
 use futures_buffered_core::ready_shared::SharedReady;
 use futures_buffered_held::spsc;
@@ -51,7 +51,7 @@ macro_rules! merges {
             }
 
             fn polled(&mut self, cx: &mut Context<'_>) -> bool {
-                self.gives(cx)
+                matches!(self.poll_next(cx), Poll::Ready(Some(_)))
             }
         }
     )*};

@@ -1,9 +1,10 @@
 //! What holds futures that are soon ready: sets and queues of this library, also in flight, and those of the kit. Their
 //! workloads.
+use crate::items::{Items, KitQueue};
 use crate::report::Workload;
-use futures::stream::{FuturesOrdered as KitQueue, FuturesUnordered as KitSet};
+use futures::stream::FuturesUnordered as KitSet;
 use futures::task::{Context, Poll};
-use futures::{Future, Stream, future};
+use futures::{Future, Stream, future, stream};
 use futures_buffered::in_flight::{self, Kept};
 use futures_buffered_core::ready_shared::SharedReady;
 use futures_buffered_joins::join::join_all;
@@ -105,7 +106,7 @@ holders! {
     Queue<Yields>, Yields: |alloc, slots| Queue::new(alloc, slots).ok(), try_push_back;
     GrowingQueue<Yields>, Yields: |alloc, slots| GrowingQueue::with_capacity(alloc, slots).ok(), push_back;
     KitSet<Yields>, Yields: |alloc, _slots| KitSet::new(alloc).ok(), push;
-    KitQueue<Yields, ()>, Yields: |alloc, _slots| KitQueue::new(alloc).ok(), push_back;
+    KitQueue, Yields: |alloc, _slots| Some(Items::new(stream::FuturesOrdered::new(alloc).ok()?)), push_back;
     Flights<Yields>, Yields: |alloc, slots| flights(alloc, slots), try_push;
     FlightQueue, Yields: |alloc, slots| flight_queue(alloc, slots), try_push_back;
 }

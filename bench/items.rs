@@ -75,25 +75,36 @@ impl<S: Stream<Item: Drop>> Items<S> {
         }
     }
 
-    /// One poll. Says whether an item came.
-    pub fn gives(&mut self, cx: &mut Context<'_>) -> bool {
+    /// One poll. A stream that has ended gives `None` again.
+    pub fn poll_next(&mut self, cx: &mut Context<'_>) -> Poll<Option<S::Item>> {
         let Some(stream) = &mut self.stream else {
-            return false;
+            return Poll::Ready(None);
         };
         match stream.poll_next(cx) {
-            Poll::Ready(Some(_)) => true,
             Poll::Ready(None) => {
                 self.stream = None;
-                false
+                Poll::Ready(None)
             }
-            Poll::Pending => false,
+            polled => polled,
+        }
+    }
+}
+
+/// The queue of the kit.
+pub type KitQueue = Items<stream::FuturesOrdered<Yields, ()>>;
+
+impl KitQueue {
+    /// Adds a future at the back, unless the queue has ended.
+    pub fn push_back(&mut self, future: Yields) {
+        if let Some(queue) = &mut self.stream {
+            let _ = queue.push_back(future);
         }
     }
 }
 
 impl<S: Stream<Item: Drop>> Workload for Items<S> {
     fn run(&mut self, cx: &mut Context<'_>) {
-        let _ = self.gives(cx);
+        let _ = self.poll_next(cx);
     }
 }
 

@@ -7,25 +7,22 @@ use crate::holders::{
     Drained, FlightQueue, Flights, GrowingQueue, GrowingSet, Holder, Join, Joined, Queue, Refilled,
     Set, Whole, Yields,
 };
-use crate::items::{Feed, ForEach, Items, Ready, Sent};
+use crate::items::{Feed, ForEach, Items, KitQueue, Ready, Sent};
 use crate::one_shots::{KitOneShot, OneShot, OneShots};
-use crate::report::{RUNS, Report};
+use crate::report::{Host, RUNS, Report};
 use crate::sources::{Listed, TaskAlone, taking};
 use crate::waiting::{InSlot, InTask, Woken};
 use futures::StreamExt;
-use futures::stream::{FuturesOrdered as KitQueue, FuturesUnordered as KitSet};
+use futures::stream::FuturesUnordered as KitSet;
 use futures::task::Waker;
 use futures_buffered::buffer_unordered::BufferUnordered;
 use futures_buffered::buffered_ordered::BufferedOrdered;
 use futures_buffered::in_flight::BufferedStreamExt;
 use futures_buffered_core::ready_shared::{SharedReady, SharedWaker};
 use futures_buffered_unordered::merge_bounded::MergeBounded;
-use std::alloc::AllocGlobal;
-use std::io::{self, Print};
-use std::random::RandomSource;
+use std::io;
 use std::sync::Wait;
 use std::thread::Threads;
-use std::time::Clock;
 
 const SIZES: [usize; 4] = [16, 256, 4_096, 65_536];
 
@@ -51,7 +48,7 @@ macro_rules! polled {
     };
 }
 
-impl<R: Clock + RandomSource + AllocGlobal + Print> Report<'_, R> {
+impl<R: Host> Report<'_, R> {
     fn list(&mut self) -> io::Result<()> {
         let alloc = self.rt.alloc();
         for slots in SIZES {
@@ -171,7 +168,7 @@ impl<R: Clock + RandomSource + AllocGlobal + Print> Report<'_, R> {
         }
         for held in [16, 4_096] {
             self.queue::<FlightQueue>("in flight ordered", held)?;
-            self.queue::<KitQueue<Yields, ()>>("kit ordered", held)?;
+            self.queue::<KitQueue>("kit ordered", held)?;
         }
         Ok(())
     }
@@ -246,7 +243,7 @@ impl<R: Clock + RandomSource + AllocGlobal + Print> Report<'_, R> {
 }
 
 // The rows of several threads, and of `block_on`.
-impl<R: Clock + RandomSource + AllocGlobal + Print + Threads + Wait + Sync> Report<'_, R> {
+impl<R: Host + Threads + Wait + Sync> Report<'_, R> {
     // Two or four wakers beside one poller.
     fn taking(&mut self, slots: usize, are_four: bool, name: &str) -> io::Result<()> {
         let mut least = u128::MAX;

@@ -1,15 +1,15 @@
 //! Workloads without a set: of the list, of the kit, and of a source beside threads.
 ghost use Rattle.std.specs.Prelude.{◌≡◌, ◌<◌};
 
-use crate::report::{Workload, tenths};
+use crate::report::{Host, Workload, tenths};
 use futures::task::{Context, Poll, Source as TaskSource, Waker};
 use futures_buffered_core::ready_core::NewFault;
 use futures_buffered_core::ready_shared::{OuterWaker, SharedReady, SharedWaker};
 use futures_buffered_core::ready_source::{NewSource, ReadySource, SlotWaker};
 use futures_buffered_core::ready_table::{PollSeat, ReadyList, WakeSeat};
-use std::alloc::{AllocError, AllocGlobal, Global};
+use std::alloc::{AllocError, Global};
 use std::thread::Threads;
-use std::time::{Clock, Instant};
+use std::time::Instant;
 use std::{io, thread};
 
 /// Adds at the end. An item that finds no room is dropped here, so that a caller's `?` has none to drop.
@@ -109,11 +109,11 @@ fn add_wakers(
     Ok(())
 }
 
-fn two<T: Threads>(rt: &T, wakers: &[SharedWaker<Nobody>]) {
+fn two(rt: &impl Threads, wakers: &[SharedWaker<Nobody>]) {
     thread::join(rt, || wake_all(wakers), || wake_all(wakers));
 }
 
-fn two_or_four<T: Threads + Sync>(rt: &T, wakers: &[SharedWaker<Nobody>], are_four: bool) {
+fn two_or_four(rt: &(impl Threads + Sync), wakers: &[SharedWaker<Nobody>], are_four: bool) {
     if are_four {
         thread::join(rt, || two(rt, wakers), || two(rt, wakers));
     } else {
@@ -123,10 +123,7 @@ fn two_or_four<T: Threads + Sync>(rt: &T, wakers: &[SharedWaker<Nobody>], are_fo
 
 /// The time of one taking, in tenths of a nanosecond, where two or four threads wake the slots one after another, and
 /// this one takes as often as each of them wakes.
-pub fn taking<R>(rt: &R, slots: usize, are_four: bool) -> io::Result<u128>
-where
-    R: Clock + AllocGlobal + Threads + Sync,
-{
+pub fn taking(rt: &(impl Host + Threads + Sync), slots: usize, are_four: bool) -> io::Result<u128> {
     let mut source = Source::new(rt.alloc(), slots).map_err(|_fault| AllocError)?;
     let mut wakers = Vec::new(rt.alloc());
     add_wakers(&mut wakers, &mut source)?;

@@ -1,12 +1,12 @@
 //! What a set holds in these scenes: a future, and a stream of one item, that threads wake.
 use crate::Host;
 use crate::tally::wake_often;
-use anyhow::bail;
+use anyhow::{Context, Result};
 use futures::task::Poll;
 use futures_buffered::SlotFuture;
 use futures_buffered_core::ready_shared::SharedWaker;
 use futures_buffered_unordered::slot_stream::SlotStream;
-use std::alloc::{AllocError, Global};
+use std::alloc::Global;
 use std::sync::atomic::AtomicU64;
 use std::sync::atomic::Ordering::SeqCst;
 use std::sync::{Arc, Mutex};
@@ -30,11 +30,7 @@ pub struct Awaited {
 }
 
 /// A future of this number that waits for so many wakes, and its post.
-pub fn new_awaited(
-    alloc: Global,
-    number: usize,
-    wakes: usize,
-) -> Result<(Awaited, Arc<Post>), AllocError> {
+pub fn new_awaited(alloc: Global, number: usize, wakes: usize) -> Result<(Awaited, Arc<Post>)> {
     let (woken, waker) = (AtomicU64::new(0), Mutex::new(None));
     let post = Arc::new(alloc, Post { woken, waker })?;
     let held = Awaited {
@@ -52,7 +48,7 @@ pub fn several(
     alloc: Global,
     count: usize,
     wakes: usize,
-) -> Result<(Vec<Awaited>, Vec<Arc<Post>>), AllocError> {
+) -> Result<(Vec<Awaited>, Vec<Arc<Post>>)> {
     let (mut held, mut posts): (Vec<Awaited>, Vec<Arc<Post>>) = (Vec::new(alloc), Vec::new(alloc));
     for number in 0..count {
         let (future, post) = new_awaited(alloc, number, wakes)?;
@@ -86,13 +82,9 @@ impl SlotStream<SharedWaker> for Awaited {
         if self.is_over {
             return Poll::Ready(None);
         }
-        match self.poll(waker) {
-            Poll::Ready(number) => {
-                self.is_over = true;
-                Poll::Ready(Some(number))
-            }
-            Poll::Pending => Poll::Pending,
-        }
+        let polled = self.poll(waker).map(|number| Some(number));
+        self.is_over = polled.is_ready();
+        polled
     }
 }
 
@@ -107,21 +99,15 @@ pub fn wake_by(
     post: &Arc<Post>,
     waker: SharedWaker,
     wakes: usize,
-) -> anyhow::Result<JoinHandle<()>> {
+) -> Result<JoinHandle<()>> {
     let post = Arc::try_clone(post)?;
     Ok(thread::spawn(rt, move || wake_often(&post.woken, &waker, wakes))?)
 }
 
 /// The same by the waker that the future has left.
-pub fn wake_from_thread(
-    rt: &impl Host,
-    post: &Arc<Post>,
-    wakes: usize,
-) -> anyhow::Result<JoinHandle<()>> {
-    match take_waker(post) {
-        Some(waker) => wake_by(rt, post, waker, wakes),
-        None => bail!("the future has left no waker"),
-    }
+pub fn wake_from_thread(rt: &impl Host, post: &Arc<Post>, wakes: usize) -> Result<JoinHandle<()>> {
+    let waker = take_waker(post).context("the future has left no waker")?;
+    wake_by(rt, post, waker, wakes)
 }
 
 /// The same for each of these posts.
@@ -129,7 +115,7 @@ pub fn wake_all(
     rt: &impl Host,
     posts: &Vec<Arc<Post>>,
     wakes: usize,
-) -> anyhow::Result<Vec<JoinHandle<()>>> {
+) -> Result<Vec<JoinHandle<()>>> {
     let mut threads: Vec<JoinHandle<()>> = Vec::new(rt.alloc());
     for post in posts.iter() {
         let _ = threads.push(wake_from_thread(rt, post, wakes)?);

@@ -2,7 +2,7 @@
 use crate::Host;
 use crate::polled::Polled;
 use crate::tasks::{drain, join_threads, wanted};
-use anyhow::bail;
+use anyhow::{Context, Result, bail, ensure};
 use futures::StreamExt;
 use futures::task::Poll;
 use futures::test::MockTask;
@@ -32,7 +32,7 @@ fn send_all(alloc: Global, mut sender: Sender<Item>, items: usize) -> Option<Sen
 }
 
 // A channel of so many places.
-fn open(alloc: Global, places: usize) -> anyhow::Result<(Sender<Item>, Polled<Receiver<Item>>)> {
+fn open(alloc: Global, places: usize) -> Result<(Sender<Item>, Polled<Receiver<Item>>)> {
     let (sender, receiver) = channel(alloc, places)?;
     Ok((sender, Polled::new(alloc, receiver)?))
 }
@@ -49,7 +49,7 @@ impl Polled<Receiver<Item>> {
 
     // Receives until so many items came or the stream ends, at the slots 0 and 1 in turn where it moves. Returns how
     // many came, where they came in order.
-    fn receive(&mut self, rt: &impl Host, most: usize, moves: bool) -> anyhow::Result<usize> {
+    fn receive(&mut self, rt: &impl Host, most: usize, moves: bool) -> Result<usize> {
         let (mut came, mut slot) = (0usize, 0usize);
         for _ in rt.forever() {
             if came == most {
@@ -71,7 +71,7 @@ impl Polled<Receiver<Item>> {
 }
 
 /// So many items through so many places, then the sender goes: all come, in order, and then the end.
-pub fn sender_goes(rt: &impl Host, places: usize, items: usize) -> anyhow::Result<()> {
+pub fn sender_goes(rt: &impl Host, places: usize, items: usize) -> Result<()> {
     let alloc = rt.alloc();
     let (sender, mut polled) = open(alloc, places)?;
     let thread = thread::spawn(rt, move || drop(send_all(alloc, sender, items)))?;
@@ -81,18 +81,13 @@ pub fn sender_goes(rt: &impl Host, places: usize, items: usize) -> anyhow::Resul
 }
 
 /// The same where the sender finishes, and what it left shows afterwards that nothing is to come.
-pub fn sender_finishes(rt: &impl Host, places: usize, items: usize) -> anyhow::Result<()> {
+pub fn sender_finishes(rt: &impl Host, places: usize, items: usize) -> Result<()> {
     let alloc = rt.alloc();
     let (sender, mut polled) = open(alloc, places)?;
-    let send_and_finish = move || match send_all(alloc, sender, items) {
-        Some(sender) => sender.finish(),
-        None => None,
-    };
+    let send_and_finish = move || send_all(alloc, sender, items).and_then(|sender| sender.finish());
     let thread = thread::spawn(rt, send_and_finish)?;
     let came = polled.receive(rt, usize::MAX, false)?;
-    let Some(mut finished) = thread.join(rt) else {
-        bail!("the receiver is taken for gone");
-    };
+    let mut finished = thread.join(rt).context("the receiver is taken for gone")?;
     wanted(polled.receiver.compare_finished(&mut finished), &[0])?;
     wanted(came, &[items])
 }
@@ -103,48 +98,37 @@ fn send_and_stay(
     places: usize,
     items: usize,
     moves: bool,
-) -> anyhow::Result<(Sender<Item>, Polled<Receiver<Item>>)> {
+) -> Result<(Sender<Item>, Polled<Receiver<Item>>)> {
     let alloc = rt.alloc();
     let (sender, mut polled) = open(alloc, places)?;
     let thread = thread::spawn(rt, move || send_all(alloc, sender, items))?;
     let came = polled.receive(rt, items, moves)?;
-    let Some(sender) = thread.join(rt) else {
-        bail!("the receiver is taken for gone");
-    };
+    let sender = thread.join(rt).context("the receiver is taken for gone")?;
     wanted(came, &[items])?;
     Ok((sender, polled))
 }
 
 /// The same where the sender stays: no wake of its going makes up for one that was lost. Where the receiver moves, its
 /// second waker is that of another slot.
-pub fn sender_stays(
-    rt: &impl Host,
-    places: usize,
-    items: usize,
-    moves: bool,
-) -> anyhow::Result<()> {
+pub fn sender_stays(rt: &impl Host, places: usize, items: usize, moves: bool) -> Result<()> {
     let (mut sender, mut polled) = send_and_stay(rt, places, items, moves)?;
     wanted(polled.receiver.compare(&mut sender), &[0])
 }
 
 /// A poll waits for one item or finds it: the slot is marked once at most, by the sending or by the next one.
-pub fn marks_once(rt: &impl Host) -> anyhow::Result<()> {
+pub fn marks_once(rt: &impl Host) -> Result<()> {
     let (mut sender, mut polled) = send_and_stay(rt, 2, 1, false)?;
     let is_marked = polled.source.take() == Taken::Slot(0);
     let _sent = sender.try_send(Box::new(rt.alloc(), 1u64)?).is_ok();
-    if is_marked && polled.source.take() == Taken::Slot(0) {
-        bail!("the slot is marked twice");
-    }
+    ensure!(
+        !is_marked || polled.source.take() != Taken::Slot(0),
+        "the slot is marked twice"
+    );
     Ok(())
 }
 
 /// The receiver goes after so many items, while others are sent: nothing is left of those that did not come.
-pub fn receiver_goes(
-    rt: &impl Host,
-    places: usize,
-    items: usize,
-    most: usize,
-) -> anyhow::Result<()> {
+pub fn receiver_goes(rt: &impl Host, places: usize, items: usize, most: usize) -> Result<()> {
     let alloc = rt.alloc();
     let (sender, mut polled) = open(alloc, places)?;
     let thread = thread::spawn(rt, move || drop(send_all(alloc, sender, items)))?;
@@ -156,7 +140,7 @@ pub fn receiver_goes(
 
 /// The sender looks whether the receiver is gone, until it is; the receiver has polled and goes. Afterwards a sending
 /// is refused.
-pub fn sender_looks(rt: &impl Host, places: usize) -> anyhow::Result<()> {
+pub fn sender_looks(rt: &impl Host, places: usize) -> Result<()> {
     let (mut sender, mut polled) = open(rt.alloc(), places)?;
     let value = Box::new(rt.alloc(), 0u64)?;
     let look_and_send = move || {
@@ -167,14 +151,15 @@ pub fn sender_looks(rt: &impl Host, places: usize) -> anyhow::Result<()> {
     let _came = polled.receiver.poll_next(&polled.wakers[0]).is_ready();
     drop(polled.receiver);
     let (is_closed, is_sent) = thread.join(rt);
-    if is_closed && is_sent {
-        bail!("an item was sent to a receiver that was gone");
-    }
+    ensure!(
+        !is_closed || !is_sent,
+        "an item was sent to a receiver that was gone"
+    );
     Ok(())
 }
 
 /// So many channels in a merge that a task polls, while each sender sends and goes: all items of each come.
-pub fn merged(rt: &impl Host, channels: usize, places: usize, items: usize) -> anyhow::Result<()> {
+pub fn merged(rt: &impl Host, channels: usize, places: usize, items: usize) -> Result<()> {
     let alloc = rt.alloc();
     let task = MockTask::new(rt)?;
     let (mut senders, mut receivers) = (Vec::new(alloc), Vec::new(alloc));

@@ -1,6 +1,7 @@
 //! Futures of the kit in flight that threads complete.
 use crate::Host;
 use crate::tasks::{drain, each_came, join_threads, wanted};
+use anyhow::Result;
 use futures::channel::oneshot::{Receiver, channel};
 use futures::task::Poll;
 use futures::test::MockTask;
@@ -19,7 +20,7 @@ struct Begun {
 
 impl Begun {
     // A set of these, none of which was polled.
-    fn new(rt: &impl Host, numbers: &[usize]) -> anyhow::Result<Begun> {
+    fn new(rt: &impl Host, numbers: &[usize]) -> Result<Begun> {
         let mut begun = Begun {
             task: MockTask::new(rt)?,
             set: FuturesUnorderedBounded::new(rt.alloc(), numbers.len())?,
@@ -33,7 +34,7 @@ impl Begun {
     }
 
     // Puts one more into the set, and starts the thread that sends it.
-    fn send(&mut self, rt: &impl Host, number: usize) -> anyhow::Result<()> {
+    fn send(&mut self, rt: &impl Host, number: usize) -> Result<()> {
         let (sender, receiver) = channel(rt.alloc())?;
         let key = self.set.try_push(receiver).ok();
         self.first = self.first.or(key);
@@ -66,14 +67,14 @@ impl Begun {
 }
 
 /// A thread for each future sends its number, while a task polls the set until it ends: each comes once.
-pub fn polled(rt: &impl Host, count: usize) -> anyhow::Result<()> {
+pub fn polled(rt: &impl Host, count: usize) -> Result<()> {
     let begun = Begun::new(rt, &[0, 1][..count])?;
     each_came(count, begun.finish(rt), false)
 }
 
 /// The set is cleared after so many polls, while the sendings are under way, and a future more is put in: of that alone
 /// an output comes.
-pub fn cleared(rt: &impl Host, count: usize, polls: usize) -> anyhow::Result<()> {
+pub fn cleared(rt: &impl Host, count: usize, polls: usize) -> Result<()> {
     let mut begun = Begun::new(rt, &[0, 1][..count])?;
     begun.poll_often(polls);
     begun.set.clear();
@@ -83,7 +84,7 @@ pub fn cleared(rt: &impl Host, count: usize, polls: usize) -> anyhow::Result<()>
 
 /// One of two is cancelled after so many polls, while both sendings are under way: it comes before that or not at all,
 /// and the other comes once.
-pub fn cancelled(rt: &impl Host, polls: usize) -> anyhow::Result<()> {
+pub fn cancelled(rt: &impl Host, polls: usize) -> Result<()> {
     let mut begun = Begun::new(rt, &[0, 4])?;
     let before = begun.poll_often(polls);
     if let Some(first) = begun.first {

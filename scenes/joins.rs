@@ -2,7 +2,7 @@
 use crate::Host;
 use crate::awaited::{Post, several, wake_all};
 use crate::tasks::{join_threads, wait_for};
-use anyhow::bail;
+use anyhow::{Result, bail, ensure};
 use futures::Future;
 use futures::task::Poll;
 use futures::test::MockTask;
@@ -18,7 +18,7 @@ fn complete<F: Future<Output: Drop>>(
     join: &mut F,
     posts: &Vec<Arc<Post>>,
     wakes: usize,
-) -> anyhow::Result<F::Output> {
+) -> Result<F::Output> {
     let _pending = task.poll(join).is_ready();
     let threads = wake_all(rt, posts, wakes)?;
     for _ in rt.forever() {
@@ -32,22 +32,25 @@ fn complete<F: Future<Output: Drop>>(
 }
 
 /// A thread for each future wakes it. The join gives each output at its place.
-pub fn join(rt: &impl Host, count: usize, wakes: usize) -> anyhow::Result<()> {
+pub fn join(rt: &impl Host, count: usize, wakes: usize) -> Result<()> {
     let task = MockTask::new(rt)?;
     let (held, posts) = several(rt.alloc(), count, wakes)?;
     let mut join = join_all(rt.alloc(), held)?;
     let outputs = complete(rt, &task, &mut join, &posts, wakes)?;
-    for place in 0..count {
-        if outputs.len() != count || outputs[place] != place {
-            bail!("an output is at another place");
-        }
-    }
+    let are_in_place = outputs
+        .iter()
+        .enumerate()
+        .all(|(place, output)| *output == place);
+    ensure!(
+        outputs.len() == count && are_in_place,
+        "an output is at another place"
+    );
     Ok(())
 }
 
 /// A thread for each future wakes it, and the future of one number fails: the join answers its error, and drops the
 /// others while their wakes may be under way.
-pub fn try_join(rt: &impl Host, count: usize, fails: usize) -> anyhow::Result<()> {
+pub fn try_join(rt: &impl Host, count: usize, fails: usize) -> Result<()> {
     let task = MockTask::new(rt)?;
     let (held, posts) = several(rt.alloc(), count, 1)?;
     let attempt = move |number: usize| if number == fails {

@@ -19,7 +19,7 @@ mod tally;
 mod tasks;
 
 use crate::holders::{GrowingMerge, GrowingQueue, GrowingSet, Holder, Merge, Queue, Set};
-use anyhow::bail;
+use anyhow::{Context, Result, bail};
 use std::alloc::AllocGlobal;
 use std::env;
 use std::env::Env;
@@ -33,12 +33,10 @@ pub trait Host: Threads + Wait + RandomSource + AllocGlobal {}
 impl<R: Threads + Wait + RandomSource + AllocGlobal> Host for R {}
 
 // The scene, its kind where it is one of sets and their like, and its numbers.
-fn read_words(rt: &(impl Env + AllocGlobal)) -> anyhow::Result<(String, String, [usize; 3])> {
+fn read_words(rt: &(impl Env + AllocGlobal)) -> Result<(String, String, [usize; 3])> {
     let mut words = env::args(rt)?;
     words.next();
-    let Some(scene) = words.next() else {
-        bail!("usage: scenes SCENE WORD..");
-    };
+    let scene = words.next().context("usage: scenes SCENE WORD..")?;
     let mut kind = String::new(rt.alloc());
     let (mut numbers, mut count) = ([0usize; 3], 0usize);
     for word in words {
@@ -53,7 +51,7 @@ fn read_words(rt: &(impl Env + AllocGlobal)) -> anyhow::Result<(String, String, 
     Ok((scene, kind, numbers))
 }
 
-fn held_scene<H: Holder>(rt: &impl Host, scene: &str, numbers: [usize; 3]) -> anyhow::Result<()> {
+fn held_scene<H: Holder>(rt: &impl Host, scene: &str, numbers: [usize; 3]) -> Result<()> {
     let [a, b, c] = numbers;
     match scene {
         "polled" => held::polled::<H>(rt, a, b, c),
@@ -68,7 +66,7 @@ fn held_scene<H: Holder>(rt: &impl Host, scene: &str, numbers: [usize; 3]) -> an
     }
 }
 
-fn other_scene(rt: &impl Host, scene: &str, numbers: [usize; 3]) -> anyhow::Result<()> {
+fn other_scene(rt: &impl Host, scene: &str, numbers: [usize; 3]) -> Result<()> {
     let [a, b, c] = numbers;
     match scene {
         "list_wakes" => ready_list::wakes(rt, a, b, c),
@@ -102,7 +100,7 @@ fn other_scene(rt: &impl Host, scene: &str, numbers: [usize; 3]) -> anyhow::Resu
     }
 }
 
-fn main(rt: HostRuntime) -> anyhow::Result<()> {
+fn main(rt: HostRuntime) -> Result<()> {
     let (scene, kind, numbers) = read_words(&rt)?;
     let scene = scene.as_str();
     match kind.as_str() {

@@ -1,7 +1,7 @@
 //! A one-shot whose sender is on a thread, and whose receiver is polled meanwhile.
 use crate::Host;
 use crate::polled::Polled;
-use anyhow::bail;
+use anyhow::{Context, Result, bail, ensure};
 use futures::task::Poll;
 use futures_buffered::SlotFuture;
 use futures_buffered_core::ready_core::Taken;
@@ -15,7 +15,7 @@ type Item = Box<u64>;
 type Answer = Result<Item, Canceled>;
 
 // The sender, what it is to send, and the receiver.
-fn open(rt: &impl Host) -> anyhow::Result<(Sender<Item>, Item, Polled<Receiver<Item>>)> {
+fn open(rt: &impl Host) -> Result<(Sender<Item>, Item, Polled<Receiver<Item>>)> {
     let (sender, receiver) = channel(rt.alloc())?;
     let value = Box::new(rt.alloc(), VALUE)?;
     Ok((sender, value, Polled::new(rt.alloc(), receiver)?))
@@ -42,16 +42,17 @@ impl Polled<Receiver<Item>> {
         thread: JoinHandle<T>,
         polls: usize,
         last: usize,
-    ) -> anyhow::Result<(Answer, T)> {
+    ) -> Result<(Answer, T)> {
         let answer = self.poll_often(polls, last);
         let given = thread.join(rt);
         if let Some(answer) = answer {
             return Ok((answer, given));
         }
         let (first, second) = (self.source.take(), self.source.take());
-        if polls > 0 && first != Taken::Slot(last) && second != Taken::Slot(last) {
-            bail!("no wake of the slot of the last poll");
-        }
+        ensure!(
+            polls == 0 || [first, second].contains(&Taken::Slot(last)),
+            "no wake of the slot of the last poll"
+        );
         match self.receiver.poll(&self.wakers[last]) {
             Poll::Ready(answer) => Ok((answer, given)),
             Poll::Pending => bail!("the sender is done, and no answer came"),
@@ -65,45 +66,38 @@ fn is_value(answer: &Answer) -> bool {
 
 /// The sender sends while the receiver is polled, the last time with the waker of slot `last`: the value comes, and
 /// that slot is woken.
-pub fn sent(rt: &impl Host, polls: usize, last: usize) -> anyhow::Result<()> {
+pub fn sent(rt: &impl Host, polls: usize, last: usize) -> Result<()> {
     let (sender, value, mut polled) = open(rt)?;
     let thread = thread::spawn(rt, move || sender.send(value).is_ok())?;
     let (answer, is_sent) = polled.receive(rt, thread, polls, last)?;
-    if !is_value(&answer) || !is_sent {
-        bail!("another answer");
-    }
+    ensure!(is_value(&answer) && is_sent, "another answer");
     Ok(())
 }
 
 /// The same with a receipt, which shows afterwards that what came is what was sent.
-pub fn sent_with_receipt(rt: &impl Host, polls: usize) -> anyhow::Result<()> {
+pub fn sent_with_receipt(rt: &impl Host, polls: usize) -> Result<()> {
     let (sender, value, mut polled) = open(rt)?;
     let thread = thread::spawn(rt, move || sender.send_with_receipt(value).ok())?;
     let (answer, receipt) = polled.receive(rt, thread, polls, 0)?;
-    let Some(receipt) = receipt else {
-        bail!("the value came back");
-    };
-    receipt.compare(&mut polled.receiver);
-    if !is_value(&answer) {
-        bail!("another answer");
-    }
+    receipt
+        .context("the value came back")?
+        .compare(&mut polled.receiver);
+    ensure!(is_value(&answer), "another answer");
     Ok(())
 }
 
 /// The sender goes, and has sent nothing: the receiver is told, and its slot is woken.
-pub fn sender_goes(rt: &impl Host, polls: usize, last: usize) -> anyhow::Result<()> {
+pub fn sender_goes(rt: &impl Host, polls: usize, last: usize) -> Result<()> {
     let (sender, _value, mut polled) = open(rt)?;
     let thread = thread::spawn(rt, move || drop(sender))?;
     let (answer, ()) = polled.receive(rt, thread, polls, last)?;
-    if answer.is_ok() {
-        bail!("a value came, and none was sent");
-    }
+    ensure!(answer.is_err(), "a value came, and none was sent");
     Ok(())
 }
 
 /// The receiver goes while the sender sends: the value came, or comes back, or is dropped with what both share. Nothing
 /// is left.
-pub fn receiver_goes(rt: &impl Host, polls: usize) -> anyhow::Result<()> {
+pub fn receiver_goes(rt: &impl Host, polls: usize) -> Result<()> {
     let (sender, value, mut polled) = open(rt)?;
     let thread = thread::spawn(rt, move || sender.send(value).err())?;
     let came = polled.poll_often(polls, 0).is_some();
@@ -116,7 +110,7 @@ pub fn receiver_goes(rt: &impl Host, polls: usize) -> anyhow::Result<()> {
 }
 
 /// The sender looks whether the receiver is gone, and sends then. It is not, though it is polled meanwhile.
-pub fn sender_looks(rt: &impl Host, polls: usize) -> anyhow::Result<()> {
+pub fn sender_looks(rt: &impl Host, polls: usize) -> Result<()> {
     let (sender, value, mut polled) = open(rt)?;
     let look_and_send = move || {
         let is_gone = sender.is_canceled();
@@ -125,8 +119,9 @@ pub fn sender_looks(rt: &impl Host, polls: usize) -> anyhow::Result<()> {
     };
     let thread = thread::spawn(rt, look_and_send)?;
     let (answer, is_gone) = polled.receive(rt, thread, polls, 0)?;
-    if !is_value(&answer) || is_gone {
-        bail!("another answer, or the receiver is taken for gone");
-    }
+    ensure!(
+        is_value(&answer) && !is_gone,
+        "another answer, or the receiver is taken for gone"
+    );
     Ok(())
 }

@@ -1,4 +1,5 @@
 //! What is polled at the slots of a source.
+use anyhow::Result;
 use futures_buffered_core::ready_shared::{SharedReady, SharedWaker};
 use std::alloc::Global;
 
@@ -12,7 +13,7 @@ pub struct Polled<R: Drop> {
 }
 
 impl<R: Drop> Polled<R> {
-    pub fn new(alloc: Global, receiver: R) -> anyhow::Result<Polled<R>> {
+    pub fn new(alloc: Global, receiver: R) -> Result<Polled<R>> {
         let source: SharedReady = SharedReady::new(alloc, 2)?;
         let wakers = [source.try_waker(0)?, source.try_waker(1)?];
         Ok(Polled {

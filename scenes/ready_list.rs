@@ -3,7 +3,7 @@ use crate::Host;
 use crate::outer::Bed;
 use crate::tally::Tally;
 use crate::tasks::join_threads;
-use anyhow::bail;
+use anyhow::{Result, ensure};
 use futures_buffered_core::ready_core::{Taken, Woke};
 use futures_buffered_core::ready_shared::SharedReady;
 use futures_buffered_table::ready_table::{PollSeat, ReadyList, WakeSeat};
@@ -13,7 +13,7 @@ use std::thread::{self, JoinHandle, yield_now};
 
 /// Threads wake the slots of a source, in turn, each so often. Whoever takes sleeps where nothing is marked, and gets
 /// to know of the last wake of each slot.
-pub fn wakes(rt: &impl Host, slots: usize, threads: usize, wakes: usize) -> anyhow::Result<()> {
+pub fn wakes(rt: &impl Host, slots: usize, threads: usize, wakes: usize) -> Result<()> {
     let alloc = rt.alloc();
     let mut source: SharedReady<Bed> = SharedReady::new(alloc, slots)?;
     let bed = Bed::new(alloc)?;
@@ -33,7 +33,7 @@ fn take_until_known(
     source: &mut SharedReady<Bed>,
     bed: &Bed,
     tally: &mut Tally,
-) -> anyhow::Result<()> {
+) -> Result<()> {
     for _ in rt.forever() {
         source.set_outer(bed.waker()?);
         let paused = tally.take_all(source, 0);
@@ -49,7 +49,7 @@ fn take_until_known(
 }
 
 /// One outer waker is kept, and another is put in its place while wakes are under way: the other is woken.
-pub fn outer_wakers(rt: &impl Host, wakes: usize) -> anyhow::Result<()> {
+pub fn outer_wakers(rt: &impl Host, wakes: usize) -> Result<()> {
     let alloc = rt.alloc();
     let mut source: SharedReady<Bed> = SharedReady::new(alloc, 1)?;
     let (before, bed) = (Bed::new(alloc)?, Bed::new(alloc)?);
@@ -84,7 +84,7 @@ fn take_often(list: &ReadyList, poll: &mut PollSeat, takings: usize) -> usize {
 /// Three seats over two slots: two threads wake both slots, in opposite orders, and the poller takes so often
 /// meanwhile. Afterwards as many slots are named as there were fresh wakes, and then none: no mark is lost, and none is
 /// there twice.
-pub fn seats(rt: &impl Host, takings: usize) -> anyhow::Result<()> {
+pub fn seats(rt: &impl Host, takings: usize) -> Result<()> {
     let alloc: Global = rt.alloc();
     let (list, mut poll, seat) = ReadyList::new(alloc, 2)?;
     let (one, other) = seat.split(&list);
@@ -96,13 +96,13 @@ pub fn seats(rt: &impl Host, takings: usize) -> anyhow::Result<()> {
     let (_one, fresh) = one.join(rt);
     let (_other, fresh_too) = other.join(rt);
     let afterwards = take_often(&list, &mut poll, 3);
-    if meanwhile + afterwards != fresh + fresh_too {
-        bail!(
-            "{fresh} and {fresh_too} wakes were fresh, and {meanwhile} and {afterwards} slots were named"
-        );
-    }
-    if list.take(&mut poll) != Taken::Empty {
-        bail!("a slot is named twice");
-    }
+    ensure!(
+        meanwhile + afterwards == fresh + fresh_too,
+        "{fresh} and {fresh_too} wakes were fresh, and {meanwhile} and {afterwards} slots were named"
+    );
+    ensure!(
+        list.take(&mut poll) == Taken::Empty,
+        "a slot is named twice"
+    );
     Ok(())
 }

@@ -1,9 +1,10 @@
 //! How often each slot was woken, and of how many of these wakes its poller knows.
 use crate::Host;
+use anyhow::Result;
 use futures_buffered_core::ready_core::Taken;
 use futures_buffered_core::ready_shared::{OuterWaker, SharedReady};
 use futures_buffered_core::ready_source::SlotWaker;
-use std::alloc::{AllocError, Global};
+use std::alloc::Global;
 use std::sync::Arc;
 use std::sync::atomic::AtomicU64;
 use std::sync::atomic::Ordering::SeqCst;
@@ -31,24 +32,22 @@ pub fn wake_often<W: SlotWaker>(woken: &AtomicU64, waker: &W, wakes: usize) {
 }
 
 impl Tally {
-    pub fn new(alloc: Global, count: usize) -> Result<Tally, AllocError> {
+    pub fn new(alloc: Global, count: usize) -> Result<Tally> {
         let mut slots = Vec::new(alloc);
         for _ in 0..count {
-            let woken = Arc::new(alloc, AtomicU64::new(0))?;
-            let slot = Slot {
-                woken,
+            slots.push(Slot {
+                woken: Arc::new(alloc, AtomicU64::new(0))?,
                 known: 0,
                 wanted: 0,
-            };
-            let _ = slots.push(slot);
+            })?;
         }
         Ok(Tally { slots })
     }
 
     /// So many more wakes of this slot will come. Returns what counts them.
-    pub fn expect(&mut self, slot: usize, wakes: usize) -> Result<Arc<AtomicU64>, AllocError> {
+    pub fn expect(&mut self, slot: usize, wakes: usize) -> Result<Arc<AtomicU64>> {
         self.slots[slot].wanted = self.slots[slot].wanted.wrapping_add(wakes as u64);
-        Arc::try_clone(&self.slots[slot].woken)
+        Ok(Arc::try_clone(&self.slots[slot].woken)?)
     }
 
     /// Starts a thread that wakes this slot of a source so often. The slot has this place here.
@@ -59,7 +58,7 @@ impl Tally {
         slot: usize,
         place: usize,
         wakes: usize,
-    ) -> anyhow::Result<JoinHandle<()>> {
+    ) -> Result<JoinHandle<()>> {
         let waker = source.try_waker(slot)?;
         let woken = self.expect(place, wakes)?;
         Ok(thread::spawn(rt, move || wake_often(&woken, &waker, wakes))?)

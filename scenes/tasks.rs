@@ -1,7 +1,7 @@
 //! A source that a task polls by hand.
 use crate::Host;
 use crate::tally::{Tally, wake_often};
-use anyhow::bail;
+use anyhow::{Result, bail, ensure};
 use futures::Stream;
 use futures::task::Poll;
 use futures::test::MockTask;
@@ -41,15 +41,13 @@ pub fn join_threads(rt: &impl Host, threads: Vec<JoinHandle<()>>) {
 }
 
 /// One of these numbers came.
-pub fn wanted(came: usize, any_of: &[usize]) -> anyhow::Result<()> {
-    if !any_of.contains(&came) {
-        bail!("{came} came");
-    }
+pub fn wanted(came: usize, any_of: &[usize]) -> Result<()> {
+    ensure!(any_of.contains(&came), "{came} came");
     Ok(())
 }
 
 /// Each of one or two numbers came once, in order if there is one.
-pub fn each_came(count: usize, came: usize, is_ordered: bool) -> anyhow::Result<()> {
+pub fn each_came(count: usize, came: usize, is_ordered: bool) -> Result<()> {
     match count {
         1 => wanted(came, &[1]),
         2 => wanted(came, &[12, if is_ordered { 12 } else { 21 }]),
@@ -91,7 +89,7 @@ fn poll_until_known(
 
 /// Threads wake the slots of a source, in turn, each so often. The task that polls it gets to know of the last wake of
 /// each slot.
-pub fn task(rt: &impl Host, slots: usize, threads: usize, wakes: usize) -> anyhow::Result<()> {
+pub fn task(rt: &impl Host, slots: usize, threads: usize, wakes: usize) -> Result<()> {
     let alloc = rt.alloc();
     let mut source: [SharedReady; 1] = [SharedReady::new(alloc, slots)?];
     let task = MockTask::new(rt)?;
@@ -108,7 +106,7 @@ pub fn task(rt: &impl Host, slots: usize, threads: usize, wakes: usize) -> anyho
 
 /// One task has polled the source, and another polls it while wakes are under way. The other is woken, and the first
 /// too, since nobody keeps its waker then.
-pub fn other_task(rt: &impl Host, wakes: usize) -> anyhow::Result<()> {
+pub fn other_task(rt: &impl Host, wakes: usize) -> Result<()> {
     let mut source: [SharedReady; 1] = [SharedReady::new(rt.alloc(), 1)?];
     let (first, other) = (MockTask::new(rt)?, MockTask::new(rt)?);
     let mut tally = Tally::new(rt.alloc(), 1)?;
@@ -116,14 +114,15 @@ pub fn other_task(rt: &impl Host, wakes: usize) -> anyhow::Result<()> {
     let thread = tally.start(rt, &source[0], 0, 0, wakes)?;
     poll_until_known(rt, &other, &mut source, &mut tally);
     thread.join(rt);
-    if !first.is_woken() {
-        bail!("the first task sleeps, and nobody keeps its waker");
-    }
+    ensure!(
+        first.is_woken(),
+        "the first task sleeps, and nobody keeps its waker"
+    );
     Ok(())
 }
 
 /// The source goes while wakes are under way: they or its going wake the task.
-pub fn dropped_source(rt: &impl Host, wakes: usize) -> anyhow::Result<()> {
+pub fn dropped_source(rt: &impl Host, wakes: usize) -> Result<()> {
     let mut source: [SharedReady; 1] = [SharedReady::new(rt.alloc(), 1)?];
     let task = MockTask::new(rt)?;
     let mut tally = Tally::new(rt.alloc(), 1)?;
@@ -131,15 +130,13 @@ pub fn dropped_source(rt: &impl Host, wakes: usize) -> anyhow::Result<()> {
     let thread = tally.start(rt, &source[0], 0, 0, wakes)?;
     drop(source);
     thread.join(rt);
-    if !task.is_woken() {
-        bail!("the task sleeps");
-    }
+    ensure!(task.is_woken(), "the task sleeps");
     Ok(())
 }
 
 /// Two tasks on two threads poll two sources beside one another. The task here polls the first, or the second if `here`
 /// is not 0. The other task polls once, and wakes its own slot and then that of the task here, which learns of it.
-pub fn pollers(rt: &impl Host, here: usize) -> anyhow::Result<()> {
+pub fn pollers(rt: &impl Host, here: usize) -> Result<()> {
     let alloc = rt.alloc();
     let mut first: SharedReady = SharedReady::new(alloc, 1)?;
     let second = first.make_sibling(alloc, 1)?;
@@ -171,7 +168,7 @@ pub fn pollers(rt: &impl Host, here: usize) -> anyhow::Result<()> {
 /// A source is made beside another while wakes of that are under way. Then one task polls both, and registers with the
 /// first alone: it gets to know of the last wake of each. With `earlier` the second keeps the waker of an earlier poll,
 /// which ended with a name.
-pub fn sibling(rt: &impl Host, wakes: usize, earlier: usize) -> anyhow::Result<()> {
+pub fn sibling(rt: &impl Host, wakes: usize, earlier: usize) -> Result<()> {
     let alloc = rt.alloc();
     let mut first: SharedReady = SharedReady::new(alloc, 1)?;
     let task = MockTask::new(rt)?;

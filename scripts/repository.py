@@ -107,11 +107,24 @@ def copy_libraries(room):
         sys.exit(copied.stderr)
 
 
+def lines_in(file):
+    """The lines of a crates.txt, or none if it is missing."""
+    return file.read_text(encoding="utf-8").splitlines() if file.exists() else []
+
+
+def list_crates(file, wanted):
+    """Gives each of these crates its line in a crates.txt, and returns the new lines."""
+    before = lines_in(file)
+    lines = [wanted.get(name_of(line), line) for line in before]
+    listed = {name_of(line) for line in lines}
+    lines += [line for name, line in wanted.items() if name not in listed]
+    file.write_text("".join(line + "\n" for line in lines), encoding="utf-8")
+    return [line for line in wanted.values() if line not in before]
+
+
 def add_crate(room, name, uses, sources):
     """Adds a crate to another repository, or replaces it: its line of crates.txt, and its sources, each as a module. Returns its folder."""
-    listed = room / "crates.txt"
-    others = [line for line in listed.read_text(encoding="utf-8").splitlines() if name_of(line) != name]
-    listed.write_text("\n".join([*others, f"{name}: {uses}", ""]), encoding="utf-8")
+    list_crates(room / "crates.txt", {name: f"{name}: {uses}"})
     folder = room / "crates" / name
     shutil.rmtree(folder / "src", ignore_errors=True)
     (folder / "src").mkdir(parents=True)

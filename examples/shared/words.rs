@@ -1,7 +1,7 @@
 //! What a program's words ask for.
 ghost use Rattle.std.specs.Prelude.{◌<◌, IfOk};
 
-use anyhow::bail;
+use anyhow::{Context, ensure};
 use std::env::{self, Args, Env};
 use std::net::{Ipv4Addr, SocketAddr};
 use std::time::Duration;
@@ -14,41 +14,38 @@ pub struct Words {
 }
 
 impl Words {
-    pub fn new<R: Env + AllocGlobal>(rt: &R, usage: &'static str) -> Result<Words, anyhow::Error> {
+    pub fn new<R: Env + AllocGlobal>(rt: &R, usage: &'static str) -> anyhow::Result<Words> {
         let mut words = env::args(rt)?;
         let _program = words.next();
         Ok(Words { words, usage })
     }
 
-    pub fn text(&mut self) -> Result<String, anyhow::Error> {
-        let Some(word) = self.words.next() else {
-            bail!("usage: {}", self.usage);
-        };
-        Ok(word)
+    pub fn text(&mut self) -> anyhow::Result<String> {
+        self.words
+            .next()
+            .context(format_args!("usage: {}", self.usage))
     }
 
-    pub fn number(&mut self) -> Result<u32, anyhow::Error> {
+    pub fn number(&mut self) -> anyhow::Result<u32> {
         Ok(self.text()?.parse()?)
     }
 
     /// How many are under way at a time: at least one.
-    pub fn limit(&mut self) -> Result<usize, anyhow::Error>
+    pub fn limit(&mut self) -> anyhow::Result<usize>
         ensures { IfOk result (λ limit. 0 < limit) }
     {
         let limit = self.text()?.parse()?;
-        if limit == 0 {
-            bail!("a limit is 1 at least");
-        }
+        ensure!(limit > 0, "a limit is 1 at least");
         Ok(limit)
     }
 
     /// The server on this machine that has this port.
-    pub fn server(&mut self) -> Result<SocketAddr, anyhow::Error> {
+    pub fn server(&mut self) -> anyhow::Result<SocketAddr> {
         let port = self.text()?.parse()?;
         Ok(SocketAddr::from((Ipv4Addr::LOCALHOST, port)))
     }
 
-    pub fn milliseconds(&mut self) -> Result<Duration, anyhow::Error> {
+    pub fn milliseconds(&mut self) -> anyhow::Result<Duration> {
         Ok(Duration::from_millis(self.text()?.parse()?))
     }
 }

@@ -13,7 +13,7 @@ use crate::download::Download;
 use crate::request::{document_in, request_for};
 use crate::visit::Visit;
 use crate::words::Words;
-use anyhow::bail;
+use anyhow::Context;
 use futures::StreamExt;
 use futures_buffered::in_flight::{FuturesUnorderedBounded, Kept};
 use std::alloc::{AllocError, Global};
@@ -68,8 +68,8 @@ impl Pages {
     }
 }
 
-fn download_of<R: Net + AllocGlobal>(
-    rt: &R,
+fn download_of(
+    rt: &(impl Net + AllocGlobal),
     runtime: &LocalRuntime,
     server: SocketAddr,
     name: &str,
@@ -79,17 +79,14 @@ fn download_of<R: Net + AllocGlobal>(
     Ok(Download::new(rt.alloc(), connect, request))
 }
 
-fn crawl<R>(
-    rt: &R,
+fn crawl(
+    rt: &(impl Wait + Clock + Net + RandomSource + AllocGlobal),
     runtime: &mut LocalRuntime,
     pages: &mut Pages,
     server: SocketAddr,
     limit: usize,
     deadline: Duration,
-) -> Result<(), anyhow::Error>
-where
-    R: Wait + Clock + Net + RandomSource + AllocGlobal,
-{
+) -> anyhow::Result<()> {
     let set = FuturesUnorderedBounded::new(rt.alloc(), limit)?;
     let mut visits: Visits = Kept::new(set);
     for _ in rt.forever() {
@@ -104,19 +101,15 @@ where
         let Some((name, answer)) = runtime.block_on(rt, visits.next())? else {
             break;
         };
-        let Ok(answer) = answer else {
-            bail!("{name} did not come in time");
-        };
-        let answer = answer?;
-        let Some(page) = document_in(answer.as_slice()) else {
-            bail!("{name} is not to be had");
-        };
+        let answer = answer.context(format_args!("{name} did not come in time"))??;
+        let page = document_in(answer.as_slice());
+        let page = page.context(format_args!("{name} is not to be had"))?;
         pages.find_links(str::from_utf8(page)?)?;
     }
     Ok(())
 }
 
-fn main(rt: HostRuntime) -> Result<(), anyhow::Error> {
+fn main(rt: HostRuntime) -> anyhow::Result<()> {
     let mut words = Words::new(&rt, "web_crawl PORT START LIMIT MILLISECONDS")?;
     let (server, start) = (words.server()?, words.text()?);
     let (limit, deadline) = (words.limit()?, words.milliseconds()?);

@@ -129,6 +129,8 @@ static inline uint64_t mix(uint64_t x) {
 
 // explorer.c
 void note_fault(const char *form, ...) __attribute__((format(printf, 1, 2)));
+// The program ends with this fault, in the midst of a step.
+#define stop_here(...) (note_fault(__VA_ARGS__), leave())
 
 // system.c
 extern uint64_t live_blocks;
@@ -147,7 +149,7 @@ void make_thread(void *(*start)(void *), void *given);
 void run_thread(uint32_t thread);
 void settle(void);
 void end_program(void) __attribute__((noreturn));
-void stop_here(const char *form, ...) __attribute__((noreturn, format(printf, 1, 2)));
+void leave(void) __attribute__((noreturn));
 int can_go_on(uint32_t thread);
 
 // past.c

@@ -1,8 +1,6 @@
 // The threads of the explored program: coroutines that stop before each step, on x86-64.
 #include "explorer.h"
 #include <errno.h>
-#include <stdarg.h>
-#include <stdio.h>
 #include <stdlib.h>
 #include <string.h>
 #include <sys/mman.h>
@@ -47,22 +45,15 @@ void settle(void) {
     }
 }
 
-// The program ends with this fault, in the midst of a step.
-void stop_here(const char *form, ...) {
-    char text[200];
-    va_list rest;
-    va_start(rest, form);
-    vsnprintf(text, sizeof text, form, rest);
-    va_end(rest);
-    note_fault("%s", text);
+// The thread that runs makes no step any more.
+void leave(void) {
     to_explorer();
     abort();
 }
 
 void end_program(void) {
     outcome = FINISHED;
-    to_explorer();
-    abort();
+    leave();
 }
 
 static void enter(void) {
@@ -70,8 +61,7 @@ static void enter(void) {
     if (running == 0) program_status = explored_main();
     else me->start(me->given);
     me->state = ENDED;
-    to_explorer();
-    abort();
+    leave();
 }
 
 void make_stacks(void) {

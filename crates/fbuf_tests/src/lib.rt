@@ -4,8 +4,6 @@
 #[cfg(test)]
 mod fakes;
 #[cfg(test)]
-mod same;
-#[cfg(test)]
 mod scripts;
 #[cfg(test)]
 mod threads;

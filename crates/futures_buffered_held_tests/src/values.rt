@@ -1,5 +1,4 @@
 //! Values, closures, one of two, and the items of an iterator. `one_of_two_is_polled` has a value in a set too.
-use crate::same::assert_same;
 use futures::Stream;
 use futures::task::Poll;
 use futures::test::MockTask;
@@ -15,15 +14,15 @@ use std::random::RandomSource;
 use std::test::Fail;
 use test_support::ends::collected;
 use test_support::polling::poll_next;
+use test_support::same::same;
 
 #[test]
 fn a_value_is_given_once(rt: HostRuntime) -> Result<(), Fail> {
     let source: SharedReady = SharedReady::new(rt.alloc(), 1)?;
     let waker = source.try_waker(0)?;
     let mut value = ready(5);
-    assert_same(&rt, value.poll(&waker), Poll::Ready(5));
-    assert_same(&rt, value.poll(&waker), Poll::Pending);
-    Ok(())
+    let first = value.poll(&waker);
+    same((first, value.poll(&waker)), (Poll::Ready(5), Poll::Pending))
 }
 
 // What a poll before the sender has sent 21 returns, and one after that.
@@ -61,8 +60,7 @@ fn a_closure_is_asked_at_each_poll(rt: HostRuntime) -> Result<(), Fail> {
     let set = FuturesUnorderedBounded::from_iter(rt.alloc(), futures)?;
     let (sender, _receiver) = channel(rt.alloc())?;
     let polled = polls_around(&rt, set, sender)?;
-    assert_same(&rt, polled, (Poll::Ready(Some(3)), Poll::Ready(None)));
-    Ok(())
+    same(polled, (Poll::Ready(Some(3)), Poll::Ready(None)))
 }
 
 #[test]
@@ -74,8 +72,7 @@ fn an_output_goes_through_a_closure(rt: HostRuntime) -> Result<(), Fail> {
     );
     let set = FuturesUnorderedBounded::from_iter(rt.alloc(), vec![in rt.alloc(); doubled]?)?;
     let polled = polls_around(&rt, set, sender)?;
-    assert_same(&rt, polled, (Poll::Pending, Poll::Ready(Some(42))));
-    Ok(())
+    same(polled, (Poll::Pending, Poll::Ready(Some(42))))
 }
 
 #[test]
@@ -85,8 +82,7 @@ fn one_of_two_is_polled(rt: HostRuntime) -> Result<(), Fail> {
     let set = FuturesUnorderedBounded::from_iter(rt.alloc(), futures)?;
     let polled = polls_around(&rt, set, sender)?;
     let wanted = (Poll::Ready(Some(Ok(6))), Poll::Ready(Some(Ok(21))));
-    assert_same(&rt, polled, wanted);
-    Ok(())
+    same(polled, wanted)
 }
 
 #[test]
@@ -97,6 +93,5 @@ fn items_of_iterators_take_turns(rt: HostRuntime) -> Result<(), Fail> {
     ]?;
     let merge = MergeBounded::from_iter(rt.alloc(), streams)?;
     let items = collected(&rt, merge)??;
-    assert_same(&rt, items.as_slice(), [1, 10, 2].as_slice());
-    Ok(())
+    same(items.as_slice(), [1, 10, 2].as_slice())
 }

@@ -1,18 +1,11 @@
 //! Adaptors of a stream.
-use crate::ready_after::{Pause, after};
-use crate::show::print_all;
+use crate::own::{Pause, after};
+use crate::show::{Host, print_all};
 use futures::executor::block_on;
 use futures::{StreamExt, stream};
 use futures_buffered::BufferedStreamExt;
-use std::alloc::AllocGlobal;
-use std::io::Print;
-use std::random::RandomSource;
-use std::sync::Wait;
 
-pub fn in_order<R>(rt: &R) -> Result<(), anyhow::Error>
-where
-    R: Wait + RandomSource + AllocGlobal + Print,
-{
+pub fn in_order(rt: &impl Host) -> anyhow::Result<()> {
     let numbers = vec![in rt.alloc(); 3, 2, 1]?;
     let outputs = stream::iter(numbers)
         .map(|n| after(n, n))
@@ -20,10 +13,7 @@ where
     print_all(rt, outputs)
 }
 
-pub fn for_each<R>(rt: &R) -> Result<(), anyhow::Error>
-where
-    R: Wait + RandomSource + AllocGlobal + Print,
-{
+pub fn for_each(rt: &impl Host) -> anyhow::Result<()> {
     let numbers = vec![in rt.alloc(); 3, 2, 1]?;
     let pauses = BufferedStreamExt::for_each_concurrent(
         stream::iter(numbers),

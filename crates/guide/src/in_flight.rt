@@ -1,23 +1,38 @@
-//! Futures of the crate `futures`, pushed by hand into a set or a queue.
+//! Futures of the crate `futures`: in a join, and pushed by hand into a set or a queue.
 ghost use Rattle.futures_buffered.specs.InFlight.{CanPollAll};
 ghost use Rattle.futures_buffered.specs.InFlightOrdered.{CanPollOrdered};
 
-use crate::at_once::sent;
-use crate::show::print_all;
+use crate::show::{Host, print_all};
 use anyhow::bail;
-use futures::channel::oneshot::Canceled;
+use futures::channel::oneshot::{Canceled, Receiver, channel};
+use futures::executor::block_on;
 use futures::{Future, FutureExt, future};
-use futures_buffered::in_flight::{FuturesOrderedBounded, FuturesUnorderedBounded};
-use std::alloc::AllocGlobal;
-use std::io::{self, Print};
-use std::random::RandomSource;
-use std::sync::Wait;
+use futures_buffered::in_flight::{FuturesOrderedBounded, FuturesUnorderedBounded, join_all};
+use std::alloc::{AllocError, Global};
+use std::io;
+
+/// A receiver whose value has been sent.
+pub fn sent(alloc: Global, value: u64) -> Result<Receiver<u64>, AllocError> {
+    let (sender, receiver) = channel(alloc)?;
+    let _ = sender.send(value);
+    Ok(receiver)
+}
+
+pub fn joined(rt: &impl Host) -> anyhow::Result<()> {
+    let alloc = rt.alloc();
+    let receivers = vec![in alloc; sent(alloc, 1)?, sent(alloc, 2)?]?;
+    let jobs = receivers
+        .into_iter()
+        .map(|receiver| receiver.map(|sent| sent.unwrap_or(0)));
+    println!(rt; "{:?}", block_on(rt, join_all(alloc, jobs)?)?)?;
+    Ok(())
+}
 
 /// The sum of what the futures give, each added as it comes.
-fn sum_of<R, F>(rt: &R, set: FuturesUnorderedBounded<F>) -> io::Result<u64>
-where
-    R: Wait + RandomSource + AllocGlobal,
-    F: Future<Output = u64>,
+fn sum_of<F: Future<Output = u64>>(
+    rt: &impl Host,
+    set: FuturesUnorderedBounded<F>,
+) -> io::Result<u64>
     requires { CanPollAll F.Future set }
 {
     let mut set = set;
@@ -33,10 +48,7 @@ where
     Ok(sum)
 }
 
-pub fn summed<R>(rt: &R) -> Result<(), anyhow::Error>
-where
-    R: Wait + RandomSource + AllocGlobal + Print,
-{
+pub fn summed(rt: &impl Host) -> anyhow::Result<()> {
     let receiver = sent(rt.alloc(), 40)?;
     let mut set = FuturesUnorderedBounded::new(rt.alloc(), 8)?;
     let Ok(_key) = set.try_push(receiver.map(|sent| sent.unwrap_or(0))) else {
@@ -46,10 +58,7 @@ where
     Ok(())
 }
 
-pub fn at_both_ends<R>(rt: &R) -> Result<(), anyhow::Error>
-where
-    R: Wait + RandomSource + AllocGlobal + Print,
-{
+pub fn at_both_ends(rt: &impl Host) -> anyhow::Result<()> {
     let alloc = rt.alloc();
     let number = |sent: Result<u64, Canceled>| future::ready(sent.unwrap_or(0));
     let mut queue = FuturesOrderedBounded::new(alloc, 2)?;
@@ -64,9 +73,8 @@ where
 }
 
 /// The number whose digits the futures give, from the front to the back.
-fn number_of<R, F>(rt: &R, queue: FuturesOrderedBounded<F>) -> Result<u64, anyhow::Error>
+fn number_of<F>(rt: &impl Host, queue: FuturesOrderedBounded<F>) -> anyhow::Result<u64>
 where
-    R: Wait + RandomSource + AllocGlobal,
     F: Future<Output = Result<u64, Canceled>>,
     requires { CanPollOrdered F.Future queue }
 {
@@ -83,10 +91,7 @@ where
     Ok(number)
 }
 
-pub fn digits<R>(rt: &R) -> Result<(), anyhow::Error>
-where
-    R: Wait + RandomSource + AllocGlobal + Print,
-{
+pub fn digits(rt: &impl Host) -> anyhow::Result<()> {
     let alloc = rt.alloc();
     let mut queue = FuturesOrderedBounded::new(alloc, 8)?;
     if queue

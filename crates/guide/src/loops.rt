@@ -1,15 +1,12 @@
 //! Sets that are pushed into while they are drained.
-use crate::ready_after::{ReadyAfter, after};
+use crate::own::{ReadyAfter, after};
+use crate::show::Host;
 use futures::executor::block_on;
 use futures::task::{Context, Poll};
 use futures::{Future, Stream, StreamExt, future};
 use futures_buffered::{FuturesUnordered, FuturesUnorderedBounded, NewFault, SharedReady};
-use std::alloc::AllocGlobal;
 use std::io;
-use std::io::Print;
 use std::ops::Range;
-use std::random::RandomSource;
-use std::sync::Wait;
 
 // At most 128 jobs are under way.
 type Jobs = FuturesUnorderedBounded<ReadyAfter, SharedReady>;
@@ -21,10 +18,7 @@ fn begin_each(jobs: &mut Jobs, numbers: Range<u64>) {
 }
 
 // Begins one as soon as another has ended. The sum of what these gave.
-fn replace_each<R>(rt: &R, jobs: &mut Jobs, numbers: Range<u64>) -> io::Result<u64>
-where
-    R: Wait + RandomSource + AllocGlobal,
-{
+fn replace_each(rt: &impl Host, jobs: &mut Jobs, numbers: Range<u64>) -> io::Result<u64> {
     let mut sum = 0u64;
     for number in numbers {
         let output = block_on(rt, jobs.next())?;
@@ -34,10 +28,7 @@ where
     Ok(sum)
 }
 
-pub fn at_most_128<R>(rt: &R) -> Result<(), anyhow::Error>
-where
-    R: Wait + RandomSource + AllocGlobal + Print,
-{
+pub fn at_most_128(rt: &impl Host) -> anyhow::Result<()> {
     let mut jobs = Jobs::new(rt.alloc(), 128)?;
     begin_each(&mut jobs, 0..128);
     let sum = replace_each(rt, &mut jobs, 128..1_024)?;
@@ -79,10 +70,7 @@ impl Future for Halving {
     }
 }
 
-pub fn pushed_into_while_drained<R>(rt: &R) -> Result<(), anyhow::Error>
-where
-    R: Wait + RandomSource + AllocGlobal + Print,
-{
+pub fn pushed_into_while_drained(rt: &impl Host) -> anyhow::Result<()> {
     let mut parts = FuturesUnordered::new(rt.alloc());
     parts.add(after(0, 100))?;
     let halving = Halving { parts, ones: 0 };

@@ -2,31 +2,26 @@
 #![tactic(auto)]
 
 mod adaptors;
-mod at_once;
-mod channels;
-mod checked;
 mod in_flight;
 mod loops;
-mod numbers;
+mod own;
 mod proved;
-mod ready_after;
-mod ready_made;
 mod senders;
 mod sets;
 mod show;
 mod sources;
 
-fn main(rt: HostRuntime) -> Result<(), anyhow::Error> {
+fn main(rt: HostRuntime) -> anyhow::Result<()> {
     sets::bounded_set(&rt)?;
     loops::at_most_128(&rt)?;
     loops::pushed_into_while_drained(&rt)?;
     adaptors::in_order(&rt)?;
     adaptors::for_each(&rt)?;
-    ready_made::one_shot(&rt)?;
-    channels::three_senders(&rt)?;
+    sets::one_shot(&rt)?;
+    senders::three_senders(&rt)?;
     senders::refusals(&rt)?;
     senders::senders_on_threads(&rt)?;
-    at_once::joined(&rt)?;
+    in_flight::joined(&rt)?;
     in_flight::summed(&rt)?;
     in_flight::at_both_ends(&rt)?;
     in_flight::digits(&rt)?;

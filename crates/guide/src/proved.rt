@@ -5,28 +5,21 @@
 //!
 //! - `doubling`: a future whose contract says what a poll answers.
 //! - `ticket`: a future that may not be polled again once it is ready.
-//! - `sets`, `queues`, `joins`, `merges`, `adaptors`, `channels`: a caller of each family.
+//! - `callers`, `channels`: a caller of each family.
 //!
 //! Below, the callers are called.
-mod adaptors;
+mod callers;
 mod channels;
 mod doubling;
-mod joins;
-mod merges;
-mod queues;
-mod sets;
 mod ticket;
 
-use crate::numbers::Numbers;
+use crate::own::Numbers;
 use crate::proved::doubling::Doubling;
+use crate::show::Host;
 use futures_buffered::spsc::with_protocol;
 use futures_buffered::{FuturesOrderedBounded, FuturesUnorderedBounded, MergeBounded};
-use std::alloc::AllocGlobal;
-use std::io::Print;
-use std::random::RandomSource;
-use std::sync::Wait;
 
-fn jobs<R: AllocGlobal>(rt: &R) -> Result<Vec<Doubling>, anyhow::Error> {
+fn jobs(rt: &impl Host) -> anyhow::Result<Vec<Doubling>> {
     let jobs = vec![in rt.alloc();
         Doubling { number: 1 },
         Doubling { number: 2 },
@@ -35,46 +28,37 @@ fn jobs<R: AllocGlobal>(rt: &R) -> Result<Vec<Doubling>, anyhow::Error> {
     Ok(jobs)
 }
 
-pub fn set<R>(rt: &R) -> Result<(), anyhow::Error>
-where
-    R: Wait + RandomSource + AllocGlobal + Print,
-{
+pub fn set(rt: &impl Host) -> anyhow::Result<()> {
     let mut set = FuturesUnorderedBounded::new(rt.alloc(), 3)?;
-    sets::push_each(&mut set, &[1, 2, 3]);
-    let outputs = sets::all_outputs(rt, set)?;
+    callers::push_each(&mut set, &[1, 2, 3]);
+    let outputs = callers::set_outputs(rt, set)?;
     println!(rt; "{outputs:?}")?;
     Ok(())
 }
 
-pub fn queue<R>(rt: &R) -> Result<(), anyhow::Error>
-where
-    R: Wait + RandomSource + AllocGlobal + Print,
-{
+pub fn queue(rt: &impl Host) -> anyhow::Result<()> {
     let queue = FuturesOrderedBounded::from_iter(rt.alloc(), jobs(rt)?)?;
-    let outputs = queues::all_outputs(rt, queue)?;
+    let outputs = callers::queue_outputs(rt, queue)?;
     println!(rt; "{outputs:?}")?;
     Ok(())
 }
 
-pub fn join_and_adaptor<R>(rt: &R) -> Result<(), anyhow::Error>
-where
-    R: Wait + RandomSource + AllocGlobal + Print,
-{
-    let together = joins::all_outputs(rt, jobs(rt)?)?;
-    let in_order = adaptors::doubled(rt, jobs(rt)?)?;
+pub fn join_and_adaptor(rt: &impl Host) -> anyhow::Result<()> {
+    let together = callers::join_outputs(rt, jobs(rt)?)?;
+    let in_order = callers::doubled(rt, jobs(rt)?)?;
     println!(rt; "{together:?}, {in_order:?}")?;
     Ok(())
 }
 
-pub fn merge<R: AllocGlobal + Print>(rt: &R) -> Result<(), anyhow::Error> {
+pub fn merge(rt: &impl Host) -> anyhow::Result<()> {
     let streams = vec![in rt.alloc(); Numbers { next: 0, end: 1 }]?;
     let mut merge = MergeBounded::from_iter(rt.alloc(), streams)?;
-    let added = merges::add_if_free(&mut merge, Numbers { next: 1, end: 2 });
+    let added = callers::add_if_free(&mut merge, Numbers { next: 1, end: 2 });
     println!(rt; "{added}")?;
     Ok(())
 }
 
-pub fn channel<R: AllocGlobal + Print>(rt: &R) -> Result<(), anyhow::Error> {
+pub fn channel(rt: &impl Host) -> anyhow::Result<()> {
     let came = channels::through(rt.alloc(), 7, 8)?;
     let (mut sender, mut receiver) = with_protocol::<u64, channels::Even>(rt.alloc(), 1)?;
     let _ = sender.try_send(6);

@@ -1,49 +1,41 @@
-//! What a channel refuses, and senders on threads.
+//! Channels in a merge, what a channel refuses, and senders on threads.
+use crate::show::{Host, print_all};
+use futures::StreamExt;
 use futures::executor::block_on;
-use futures::{Stream, StreamExt};
 use futures_buffered::MergeBounded;
 use futures_buffered::spsc::{Receiver, Sender, TrySendError, channel};
-use std::alloc::{AllocError, AllocGlobal};
 use std::fmt::Display;
-use std::io::Print;
-use std::random::RandomSource;
-use std::sync::Wait;
 use std::thread::{self, JoinHandle, Threads};
 
-pub fn refusals<R: AllocGlobal + Print>(rt: &R) -> Result<(), anyhow::Error> {
-    of_a_full_channel(rt)?;
-    of_an_empty_channel(rt)
+pub fn three_senders(rt: &impl Host) -> anyhow::Result<()> {
+    let (mut first, one) = channel::<u64>(rt.alloc(), 4)?;
+    let (mut second, two) = channel(rt.alloc(), 4)?;
+    let (mut third, three) = channel(rt.alloc(), 4)?;
+    let merge = MergeBounded::from_iter(rt.alloc(), vec![in rt.alloc(); one, two, three]?)?;
+    let _ = first.try_send(1);
+    let _ = first.try_send(2);
+    let _ = second.try_send(10);
+    let _ = third.try_send(20);
+    drop((first, second, third));
+    print_all(rt, merge)
 }
 
-fn of_a_full_channel<R: AllocGlobal + Print>(rt: &R) -> Result<(), anyhow::Error> {
+pub fn refusals(rt: &impl Host) -> anyhow::Result<()> {
     let (mut sender, mut receiver) = channel::<u64>(rt.alloc(), 1)?;
-    try_both(rt, &mut sender, &mut receiver)?;
-    drop(receiver);
-    print_refusal(rt, sender.try_send(3))
-}
-
-fn try_both<R: Print>(
-    rt: &R,
-    sender: &mut Sender<u64>,
-    receiver: &mut Receiver<u64>,
-) -> Result<(), anyhow::Error> {
     print_refusal(rt, receiver.try_recv())?;
     print_refusal(rt, sender.try_send(1))?;
-    print_refusal(rt, sender.try_send(2))
-}
-
-fn of_an_empty_channel<R: AllocGlobal + Print>(rt: &R) -> Result<(), anyhow::Error> {
+    print_refusal(rt, sender.try_send(2))?;
+    drop(receiver);
+    print_refusal(rt, sender.try_send(3))?;
     let (sender, mut receiver) = channel::<u64>(rt.alloc(), 1)?;
     drop(sender);
     print_refusal(rt, receiver.try_recv())
 }
 
-fn print_refusal<R, T, E>(rt: &R, answer: Result<T, E>) -> Result<(), anyhow::Error>
-where
-    R: Print,
-    T: Drop,
-    E: Display + Drop,
-{
+fn print_refusal<T: Drop, E: Display + Drop>(
+    rt: &impl Host,
+    answer: Result<T, E>,
+) -> anyhow::Result<()> {
     match answer {
         Ok(_) => println!(rt; "sent")?,
         Err(refused) => println!(rt; "{refused}")?,
@@ -78,81 +70,34 @@ fn turn_of(next: Option<[u64; 3]>, came: u64) -> Option<[u64; 3]> {
     Some(next)
 }
 
-// The receivers of senders, each of which is on a thread of its own.
-#[derive(Drop)]
-struct Started {
-    receivers: Vec<Receiver<u64>>,
-    threads: Vec<JoinHandle<()>>,
-}
-
-// An item that finds no room is dropped here, so that no caller has it to drop.
-fn keep<T: Drop>(row: &mut Vec<T>, item: T) -> Result<(), AllocError> {
-    row.push(item)?;
-    Ok(())
-}
-
-fn start_one<R: AllocGlobal + Threads>(
-    rt: &R,
-    started: &mut Started,
-    from: u64,
-) -> Result<(), anyhow::Error> {
-    let (sender, receiver) = channel(rt.alloc(), 7)?;
-    keep(&mut started.receivers, receiver)?;
-    let thread = thread::spawn(rt, move || send_all(sender, from))?;
-    Ok(keep(&mut started.threads, thread)?)
-}
-
-fn start_three<R: AllocGlobal + Threads>(rt: &R) -> Result<Started, anyhow::Error> {
-    let mut started = Started {
-        receivers: Vec::new(rt.alloc()),
-        threads: Vec::new(rt.alloc()),
-    };
+// The receivers of three senders, each of which is on a thread of its own, and the threads.
+fn start_three(
+    rt: &(impl Host + Threads),
+) -> anyhow::Result<(Vec<Receiver<u64>>, Vec<JoinHandle<()>>)> {
+    let (mut receivers, mut threads) = (Vec::new(rt.alloc()), Vec::new(rt.alloc()));
     for part in 0..3u64 {
-        start_one(rt, &mut started, part * EACH)?;
+        let (sender, receiver) = channel(rt.alloc(), 7)?;
+        receivers.push(receiver)?;
+        threads.push(thread::spawn(rt, move || send_all(sender, part * EACH))?)?;
     }
-    Ok(started)
-}
-
-// All that the stream gives.
-fn collected<R, St>(rt: &R, stream: St) -> Result<Vec<u64>, anyhow::Error>
-where
-    R: Wait + RandomSource + AllocGlobal,
-    St: Stream<Item = u64>,
-    requires { St.can_poll stream }
-{
-    Ok(block_on(rt, stream.collect(rt.alloc()))??)
+    Ok((receivers, threads))
 }
 
 // All that the receivers give.
-fn all_of<R>(rt: &R, receivers: Vec<Receiver<u64>>) -> Result<Vec<u64>, anyhow::Error>
-where
-    R: Wait + RandomSource + AllocGlobal,
-{
-    collected(rt, MergeBounded::from_iter(rt.alloc(), receivers)?)
+fn all_of(rt: &impl Host, receivers: Vec<Receiver<u64>>) -> anyhow::Result<Vec<u64>> {
+    let merge = MergeBounded::from_iter(rt.alloc(), receivers)?;
+    Ok(block_on(rt, merge.collect(rt.alloc()))??)
 }
 
-fn join_each<R: Threads>(rt: &R, threads: Vec<JoinHandle<()>>) {
+pub fn senders_on_threads(rt: &(impl Host + Threads)) -> anyhow::Result<()> {
+    let (receivers, threads) = start_three(rt)?;
+    let all = all_of(rt, receivers);
     for thread in threads {
         thread.join(rt);
     }
-}
-
-fn print_turns<R: Print>(rt: &R, all: &[u64]) -> Result<(), anyhow::Error> {
+    let all = all?;
     let next = all.iter().fold(Some([0, EACH, EACH * 2]), |next, came| turn_of(next, *came));
-    println!(rt;
-        "{} in order: {}",
-        all.len(),
-        next == Some([EACH, EACH * 2, EACH * 3])
-    )?;
+    let is_in_order = next == Some([EACH, EACH * 2, EACH * 3]);
+    println!(rt; "{} in order: {is_in_order}", all.len())?;
     Ok(())
-}
-
-pub fn senders_on_threads<R>(rt: &R) -> Result<(), anyhow::Error>
-where
-    R: Wait + RandomSource + AllocGlobal + Print + Threads,
-{
-    let Started { receivers, threads } = start_three(rt)?;
-    let all = all_of(rt, receivers);
-    join_each(rt, threads);
-    print_turns(rt, all?.as_slice())
 }

@@ -1,29 +1,19 @@
 //! Sources, and the parts that sets stand on.
-use crate::checked::Half;
-use crate::show::print_all;
+use crate::own::Half;
+use crate::show::{Host, print_all};
 use futures::StreamExt;
 use futures::executor::block_on;
 use futures_buffered::{
     CoreSource, Event, FuturesUnorderedBounded, PinSlotMap, ReadyCore, ScriptSource, Taken, run,
 };
-use std::alloc::AllocGlobal;
-use std::io::Print;
-use std::random::RandomSource;
-use std::sync::Wait;
 
-pub fn one_caller<R>(rt: &R) -> Result<(), anyhow::Error>
-where
-    R: Wait + RandomSource + AllocGlobal + Print,
-{
+pub fn one_caller(rt: &impl Host) -> anyhow::Result<()> {
     let jobs = vec![in rt.alloc(); Half(2), Half(3)]?;
     let set = FuturesUnorderedBounded::<Half, CoreSource>::over(&(), rt.alloc(), jobs)?;
     print_all(rt, set)
 }
 
-pub fn listed_names<R>(rt: &R) -> Result<(), anyhow::Error>
-where
-    R: Wait + RandomSource + AllocGlobal + Print,
-{
+pub fn listed_names(rt: &impl Host) -> anyhow::Result<()> {
     let names = vec![in rt.alloc(); Taken::Slot(1), Taken::Slot(0)]?;
     let source = ScriptSource::new(rt.alloc(), 2, names)?;
     let mut set = FuturesUnorderedBounded::with_source(rt.alloc(), source)?;
@@ -35,7 +25,7 @@ where
     Ok(())
 }
 
-pub fn marks_and_takings<R: AllocGlobal + Print>(rt: &R) -> Result<(), anyhow::Error> {
+pub fn marks_and_takings(rt: &impl Host) -> anyhow::Result<()> {
     let mut core = ReadyCore::new(rt.alloc(), 4)?;
     let events = [
         Event::Mark(2),
@@ -51,7 +41,7 @@ pub fn marks_and_takings<R: AllocGlobal + Print>(rt: &R) -> Result<(), anyhow::E
     Ok(())
 }
 
-pub fn slots<R: AllocGlobal + Print>(rt: &R) -> Result<(), anyhow::Error> {
+pub fn slots(rt: &impl Host) -> anyhow::Result<()> {
     let mut map = PinSlotMap::new(rt.alloc(), 2)?;
     let first = map.insert_with(11_u64, |value| value);
     let second = map.insert_with(12, |value| value);

@@ -1,6 +1,6 @@
 use Rattle.std.proofs.Common.{◌≡◌, ◌+◌}
 use Rattle.futures_buffered.specs.FuturesUnorderedBounded.{held_in, slots_in}
-use Rattle.guide.proofs.proved.sets.push_each.Given as goal
+use Rattle.guide.proofs.proved.callers.push_each.Given as goal
 
 abbrev pub invariant-loop-at : goal.invariant-loop-at
 invariant-loop-at l =

@@ -1,4 +1,4 @@
-use Rattle.guide.proofs.proved.sets.all_outputs.Goals as goal
+use Rattle.guide.proofs.proved.callers.set_outputs.Goals as goal
 
 pub returns : goal.returns
 returns g c =

@@ -1,7 +1,7 @@
 use Rattle.std.proofs.Common.{◌≡◌, length, ap, sym, ◌∙◌, rules}
 use Rattle.guide.specs.Doubling.{Doubles}
 use Rattle.futures_buffered.proofs.StreamLemmas.{gave_all, one_of_each_item}
-use Rattle.guide.proofs.proved.joins.all_outputs.Goals as goal
+use Rattle.guide.proofs.proved.callers.join_outputs.Goals as goal
 
 pub returns : goal.returns
 returns g c =

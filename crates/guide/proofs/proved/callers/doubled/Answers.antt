@@ -5,7 +5,7 @@ use Rattle.futures_buffered.specs.OrderedEntries.{ComesInOrder}
 use Rattle.guide.specs.Doubling.{Doubles}
 use Rattle.futures_buffered.proofs.StreamLemmas.{collected, gave_all}
 use Rattle.guide.proofs.DoublingLemmas.{gives_twice}
-use Rattle.guide.proofs.proved.adaptors.doubled.Goals as goal
+use Rattle.guide.proofs.proved.callers.doubled.Goals as goal
 
 pub returns : goal.returns
 returns g c =

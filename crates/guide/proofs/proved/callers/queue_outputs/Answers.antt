@@ -1,5 +1,5 @@
 use Rattle.futures_buffered.proofs.StreamLemmas.{one_of_each}
-use Rattle.guide.proofs.proved.queues.all_outputs.Goals as goal
+use Rattle.guide.proofs.proved.callers.queue_outputs.Goals as goal
 
 pub returns : goal.returns
 returns g c =
