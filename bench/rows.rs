@@ -177,10 +177,10 @@ impl<R: Host> Report<'_, R> {
         let (alloc, name) = (self.rt.alloc(), "an output of a ready future, at most held");
         for n in SIZES {
             let made = BufferedOrdered::<Ready, SharedReady>::over(&(), alloc, Ready, n.max(1));
-            polled!(self, "in_flight buffered_ordered", name, n, made);
+            polled!(self, "buffered_ordered", name, n, made);
         }
         let made = BufferUnordered::<Ready, SharedReady>::over(&(), alloc, Ready, 100);
-        polled!(self, "in_flight buffered_unordered", name, 100, made);
+        polled!(self, "buffered_unordered", name, 100, made);
         let (of, name) = ("for_each_concurrent", "an item, at most held");
         self.timed(of, name, 100, Some(ForEach(alloc)))
     }

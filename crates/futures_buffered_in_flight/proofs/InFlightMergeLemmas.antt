@@ -185,7 +185,7 @@ module _ {St A : Type 0} (stream : StreamOf St A) where
         let stays : HoldsStream new (record { slot = came.key.slot; push = came.tag }) =
         (again.push, subst (λ slot. value_in new.slots slot ≡ Some (record { tag = came.tag; push = again.push })) slot (its_place (next_of stream) mid new next came.tag again e)) in
         let comes = goes_on_from old mid new (record { slot = came.key.slot; push = came.tag }) (stream.yields came.output.1) (λ xs last. ComesOfStream stream old (record { slot = came.key.slot; push = came.tag }) (x ∷ xs) last) mid_goes_on (λ xs last h. first (x ∷ xs) last (is, h))
-            (subst (λ slot. OneGoesOn stream mid (record { slot = slot; push = came.tag }) (stream.yields came.output.1) new) slot (enters mid new next came.output.1 came.tag again rest e)) in
+        (subst (λ slot. OneGoesOn stream mid (record { slot = slot; push = came.tag }) (stream.yields came.output.1) new) slot (enters mid new next came.output.1 came.tag again rest e)) in
         let keys = e.numbered.1 ∙ ap (λ n. min (n + 1) (2 ^ 64 - 1)) p.keys in
         grind arith
       where

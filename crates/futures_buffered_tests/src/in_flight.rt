@@ -160,7 +160,10 @@ fn merged_by_key(alloc: Global, cx: &mut Context<'_>) -> Result<(), Fail> {
     same(next_keyed(cx, &mut merge, &first, 1), Some((1, key)))?;
     same(next_keyed(cx, &mut merge, &second, 2), Some((2, other)))?;
     same(next_keyed(cx, &mut merge, &first, 3), Some((3, key)))?;
-    same((merge.cancel(key), merge.cancel(key), merge.len()), (true, false, 1))?;
+    same(
+        (merge.cancel(key), merge.cancel(key), merge.len()),
+        (true, false, 1),
+    )?;
     let _ = first.unbounded_send(4);
     same(next_keyed(cx, &mut merge, &second, 5), Some((5, other)))?;
     same(merge.cancel(other), true)?;
