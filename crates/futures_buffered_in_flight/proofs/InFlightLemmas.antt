@@ -92,33 +92,39 @@ module _ {F A : Type 0} (future : FutureOf F A) where
   any_push (v ∷ ws) w came (inr more) = elim (any_push ws w came more) [ inl was ↦ inl (inr was) | inr own ↦ inr own ]
 
 module _ {F A T : Type 0} (future : FutureOf F A) where
-  -- what may come under a tag after a call, might before
-  pub tags_within : (old new : Flights F T) → new.slots ≡ old.slots → FlightsGiveNoMore future old new → (out : T × A) → TagGives future new out → TagGives future old out
-  tags_within old new same narrows out h = (h.0, subst (λ s. value_in s h.0.slot ≡ Some (record { tag = out.0; push = h.0.push })) same h.1, narrows (h.0, Some out.1) h.2)
+  -- what a slot holds after a call, it held before
+  abbrev pub NoNewPlace : Flights F T → Flights F T → Type 0
+  NoNewPlace old new = (i : ℕ) (place : Place T) → value_in new.slots i ≡ Some place → value_in old.slots i ≡ Some place
 
-  tags_after : (old new : Flights F T) (slot : ℕ) → new.slots ≡ with_slot_freed old.slots slot → FlightsGiveNoMore future old new → (out : T × A) → TagGives future new out → TagGives future old out
-  tags_after old new slot same narrows out h =
-      let holds = subst (λ s. value_in s h.0.slot ≡ Some (record { tag = out.0; push = h.0.push })) same h.1 in
-      elim (cases_eq h.0.slot slot) [
-        | inl at ↦ absurd (None-Some (sym (value_in-with_slot_freed old.slots slot) ∙ subst (λ i. value_in (with_slot_freed old.slots slot) i ≡ Some (record { tag = out.0; push = h.0.push })) at holds))
-        | inr other ↦ (h.0, sym (value_in-with_slot_freed_other old.slots slot h.0.slot other) ∙ holds, narrows (h.0, Some out.1) h.2)
+  pub same_places : (old new : Flights F T) → new.slots ≡ old.slots → NoNewPlace old new
+  same_places old new same i place holds = subst (λ s. value_in s i ≡ Some place) same holds
+
+  pub freed_places : (old new : Flights F T) (slot : ℕ) → new.slots ≡ with_slot_freed old.slots slot → NoNewPlace old new
+  freed_places old new slot freed i place holds =
+      let after = subst (λ s. value_in s i ≡ Some place) freed holds in
+      elim (cases_eq i slot) [
+        | inl at ↦ absurd (None-Some (sym (value_in-with_slot_freed old.slots slot) ∙ subst (λ i. value_in (with_slot_freed old.slots slot) i ≡ Some place) at after))
+        | inr other ↦ sym (value_in-with_slot_freed_other old.slots slot i other) ∙ after
       ]
 
-  -- what may come under a tag after a poll, might before
+  -- what may come under a tag after a call, might before
+  tags_on : (old new : Flights F T) → NoNewPlace old new → FlightsGiveNoMore future old new → (out : T × A) → TagGives future new out → TagGives future old out
+  tags_on old new places narrows out h = (h.0, places h.0.slot _ h.1, narrows (h.0, Some out.1) h.2)
+
   pub polled_tags : (old new : Flights F T) (answer : Poll (Option (Came A T))) → GivesByKey future old answer new → FlightsGiveNoMore future old new → (out : T × A) → TagGives future new out → TagGives future old out
-  polled_tags old new (Ready None) gave narrows = tags_within old new gave.1 narrows
-  polled_tags old new (Ready (Some came)) gave narrows = tags_after old new came.key.slot gave.freed narrows
-  polled_tags old new Pending gave narrows = tags_within old new gave.1 narrows
+  polled_tags old new (Ready None) gave = tags_on old new (same_places old new gave.1)
+  polled_tags old new (Ready (Some came)) gave = tags_on old new (freed_places old new came.key.slot gave.freed)
+  polled_tags old new Pending gave = tags_on old new (same_places old new gave.1)
 
   -- an output is one that a future held under its tag may give
   pub came_under : (old new : Flights F T) (came : Came A T) → ComesByKey future old came new → TagGives future old (came.tag, came.output)
   came_under old new came y = (came.key, y.was_held, y.gave)
 
   pub comes_within : (old new : Flights F T) → new.slots ≡ old.slots → FlightsGiveNoMore future old new → Within (ComesFromSlots future old) (ComesFromSlots future new)
-  comes_within old new same narrows = Gathers-Within (λ x h. (h.0, tags_within old new same narrows (h.0, x) h.1)) (held_count old.slots) (held_count new.slots) (subst (λ s. held_count s ≡ held_count old.slots) (sym same) refl)
+  comes_within old new same narrows = Gathers-Within (λ x h. (h.0, tags_on old new (same_places old new same) narrows (h.0, x) h.1)) (held_count old.slots) (held_count new.slots) (subst (λ s. held_count s ≡ held_count old.slots) (sym same) refl)
 
   pub comes_after : (old new : Flights F T) (came : Came A T) → ComesByKey future old came new → FlightsGiveNoMore future old new → After (ComesFromSlots future old) came.output (ComesFromSlots future new)
-  comes_after old new came y narrows = Gathers-After (λ x h. (h.0, tags_after old new came.key.slot y.freed narrows (h.0, x) h.1)) (held_count old.slots) (held_count new.slots) came.output y.fewer (came.tag, came_under old new came y)
+  comes_after old new came y narrows = Gathers-After (λ x h. (h.0, tags_on old new (freed_places old new came.key.slot y.freed) narrows (h.0, x) h.1)) (held_count old.slots) (held_count new.slots) came.output y.fewer (came.tag, came_under old new came y)
 
   pub comes_first : (old new : Flights F T) (came : Came A T) → ComesByKey future old came new → ComesFromSlots future old [] (Some came.output)
   comes_first old new came y = record { each = tt; ends = ((came.tag, came_under old new came y), let k = y.fewer in omega (arith, k)) }
@@ -158,17 +164,13 @@ module _ {F A T : Type 0} (future : FutureOf F A) where
       → new.slots ≡ old.slots → new.next ≡ old.next → new.cancelled ≡ old.cancelled → new.waiting ≡ old.waiting ++ value ∷ []
       → Flies future old value new
   left_waiting old new value waits fit each refused no_more slots next cancelled at_end =
-      record {
-        running = each;
-        waiting = subst (λ ws. CanPollWaiting future ws) (sym at_end) (AllByRecursion-push (λ (w : Waits F). future.can_poll w.future) old.waiting value fit waits);
-        gives = λ came g. elim g [
-          | inl run ↦ inl (inl (refused came run))
-          | inr wait ↦ elim (any_push future old.waiting value came (subst (λ ws. AnyWaitGives future ws came) at_end wait)) [ inl was ↦ inl (inr was) | inr own ↦ inr own ]
-        ];
-        counts = omega (arith, no_more, ap length at_end, length_push old.waiting value);
-        slots = slots;
-        rest = (cancelled, next);
-      }
+      let waiting = subst (λ ws. CanPollWaiting future ws) (sym at_end) (AllByRecursion-push (λ (w : Waits F). future.can_poll w.future) old.waiting value fit waits) in
+      let gives : (came : Key × Option A) → MayCome future new came → MayCome future old came ⊎ WaitGives future value came = λ came g. elim g [
+        | inl run ↦ inl (inl (refused came run))
+        | inr wait ↦ elim (any_push future old.waiting value came (subst (λ ws. AnyWaitGives future ws came) at_end wait)) [ inl was ↦ inl (inr was) | inr own ↦ inr own ]
+      ] in
+      let longer = ap length at_end ∙ length_push old.waiting value in
+      grind arith
 
   -- a future went in under the next number
   pub entered : (old mid new : Flights F T) (key : Key) (f : F) (tag : T) → CanPollAll future old
@@ -217,13 +219,17 @@ module _ {F A T : Type 0} (future : FutureOf F A) where
     | inr wait ↦ inr (subst (λ ws. AnyWaitGives future ws came) waiting wait)
   ]
 
-  pub can_after : (old new : Flights F T) → CanPollAll future old → CanPollRuns future new.running
-      → new.waiting ≡ old.waiting → new.next ≡ old.next → FlightsGiveNoMore future old new → CanPollAll future new
-  can_after old new can each waiting next less = record {
+  can_on : (old new : Flights F T) → CanPollAll future old → CanPollRuns future new.running
+      → CanPollWaiting future new.waiting → new.next ≡ old.next → FlightsGiveNoMore future old new → CanPollAll future new
+  can_on old new can each waits next less = record {
     running = each;
-    waiting = subst (λ ws. CanPollWaiting future ws) (sym waiting) can.waiting;
+    waiting = waits;
     older = λ came g. subst (λ n. came.0.push < n) (sym next) (can.older came (less came g));
   }
+
+  pub can_after : (old new : Flights F T) → CanPollAll future old → CanPollRuns future new.running
+      → new.waiting ≡ old.waiting → new.next ≡ old.next → FlightsGiveNoMore future old new → CanPollAll future new
+  can_after old new can each waiting = can_on old new can each (subst (λ ws. CanPollWaiting future ws) (sym waiting) can.waiting)
 
   -- a set that may be polled still may be after a slot was made, or none was needed
   pub wide_can_poll : (old wide : Flights F T) → CanPollAll future old → MakesRoom old wide → CanPollAll future wide
@@ -263,17 +269,8 @@ module _ {F A T : Type 0} (future : FutureOf F A) where
         | inl run ↦ inl (subst (λ runs. AnyRunGives future runs came) running run)
         | inr wait ↦ inr (subst (λ ws. AnyWaitGives future ws came) (sym is) (inr wait))
       ] in
-      record {
-        slots = slots;
-        keys = next;
-        room = room;
-        less = less;
-        again = record {
-          running = subst (λ runs. CanPollRuns future runs) (sym running) can.running;
-          waiting = (subst (λ ws. CanPollWaiting future ws) is can.waiting).1;
-          older = λ came g. subst (λ n. came.0.push < n) (sym next) (can.older came (less came g));
-        };
-      }
+      let again = can_on old new can (subst (λ runs. CanPollRuns future runs) (sym running) can.running) (subst (λ ws. CanPollWaiting future ws) is can.waiting).1 next less in
+      grind arith
 
   -- one that waited went to the kit's set, or waits again
   pub started : (old mid new : Flights F T) (w : Waits F) → CanPollAll future old → old.waiting ≡ w ∷ mid.waiting → mid.running ≡ old.running
@@ -286,17 +283,8 @@ module _ {F A T : Type 0} (future : FutureOf F A) where
         ]
         | inr own ↦ inr (subst (λ ws. AnyWaitGives future ws came) (sym is) (inl own))
       ] in
-      record {
-        slots = h.slots ∙ slots;
-        keys = h.rest.1 ∙ next;
-        room = omega (arith, h.rest.0, room);
-        less = less;
-        again = record {
-          running = h.running;
-          waiting = h.waiting;
-          older = λ came g. subst (λ n. came.0.push < n) (sym (h.rest.1 ∙ next)) (can.older came (less came g));
-        };
-      }
+      let again = can_on old new can h.running h.waiting (h.rest.1 ∙ next) less in
+      grind arith
 
   -- a poll of what the starts and turns before left
   pub polls_from : (old mid new : Flights F T) (answer : Poll (Option (Came A T))) (cx asked left : Context) → Starts future old mid → Keeps cx asked → 0 < held_count mid.slots → PollsInFlight future mid answer new asked left → PollsInFlight future old answer new cx left

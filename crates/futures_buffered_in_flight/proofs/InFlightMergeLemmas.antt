@@ -1,9 +1,9 @@
 -- What a push, a cancel and a poll leave of a merge of streams.
-use Rattle.std.proofs.Common.{◌≡◌, ◌≢◌, ◌<◌, ◌≤◌, ◌+◌, ◌-◌, ◌^◌, ◌⊎◌, inl, inr, ℕ, List, [], ◌∷◌, ◌++◌, length, length-set, get_or, Option, Some, None, refl, sym, ap, ap₂, subst, ◌∙◌, arith}
+use Rattle.std.proofs.Common.{◌≡◌, ◌≢◌, ◌<◌, ◌≤◌, ◌+◌, ◌-◌, ◌^◌, ◌⊎◌, inl, inr, ℕ, List, [], ◌∷◌, length, get_or, Option, Some, None, refl, sym, ap, ap₂, subst, ◌∙◌, arith}
 use Rattle.std.specs.Prelude.{min}
 use Rattle.std.specs.List.{FoldsTo}
 use Rattle.std.proofs.lemmas.Bool.{cases_eq}
-use Rattle.std.proofs.lemmas.List.{get_or-set_same, get_or-set_other}
+use Rattle.std.proofs.lemmas.List.{get_or-set_other}
 use Rattle.std.proofs.lemmas.Option.{same_Some}
 use Rattle.futures.proofs.EventLemmas.{get_or-push_default}
 use Rattle.futures.specs.Merged.{CanPollNext, NextOf}
@@ -14,42 +14,27 @@ use Rattle.futures.specs.declared.task.Poll.{Poll}
 use Rattle.futures.specs.declared.task.Poll.TheVariants.{Ready, Pending}
 use Rattle.futures.specs.declared.task.context.Context.{Context}
 use Rattle.futures.specs.declared.stream.ext.into_future.StreamFuture.{StreamFuture}
-use Rattle.futures_buffered_core.specs.SlotMap.{Slots, held_count, no_slots, value_in, with_slot_freed}
+use Rattle.futures_buffered_core.specs.SlotMap.{Slots, held_count, no_slots, value_in}
 use Rattle.futures_buffered_unordered.specs.FuturesUnorderedBounded.{IsWoken}
 use Rattle.futures_buffered_unordered.specs.StreamAnswers.{StreamAnswers, stream_of}
-use Rattle.futures_buffered_unordered.proofs.HeldGivesLemmas.{None-Some, value_in-with_slot_freed, value_in-with_slot_freed_other}
-use Rattle.futures_buffered_in_flight.specs.InFlight.{CanPollAll, ComesByKey, EntersAt, FlightsGiveNoMore, FlightsWaitAt, GivesWithKey, IsNewInFlight, MakesRoom, MayCome, PollsInFlight, WaitGives, flight_slots, room_taken, runs_in}
-use Rattle.futures_buffered_in_flight.specs.InFlightMerge.{AnswersNoMore, AnswersThen, AnyAnswers, AnyStream, CanPollStreams, ComesByStream, ComesFromMerged, ComesOfStream, GivesAnswer, HoldsStream, HoldsStreams, IsNewMerge, Merged, MergedWaitsAt, OneGoesOn, OneStreamEndsAtMost, PollsMerge, PollsUnkeyed, StreamEnters, StreamOf, StreamWentIn, Streams, StreamsGoOn, made_set, next_of, streams_held, without_key}
+use Rattle.futures_buffered_unordered.proofs.HeldGivesLemmas.{None-Some}
+use Rattle.futures_buffered_in_flight.specs.InFlight.{CanPollAll, EntersAt, FlightsGiveNoMore, FlightsWaitAt, GivesWithKey, IsNewInFlight, MakesRoom, MayCome, PollsInFlight, WaitGives, flight_slots, room_taken, runs_in}
+use Rattle.futures_buffered_in_flight.specs.InFlightMerge.{AnswersNoMore, AnswersThen, AnyAnswers, AnyStream, CanPollStreams, ComesFromMerged, ComesOfStream, GivesAnswer, HoldsStream, HoldsStreams, IsNewMerge, Merged, MergedWaitsAt, OneGoesOn, OneStreamEndsAtMost, PollsMerge, PollsUnkeyed, StreamEnters, StreamOf, StreamWentIn, Streams, StreamsGoOn, made_set, next_of, streams_held, without_key}
 use Rattle.futures_buffered_in_flight.specs.declared.in_flight.Came.{Came}
 use Rattle.futures_buffered_in_flight.specs.declared.in_flight.Place.{Place}
 use Rattle.futures_buffered_in_flight.specs.declared.run.Key.{Key}
 use Rattle.futures_buffered_in_flight.specs.declared.run.Run.{Run}
 use Rattle.futures_buffered_in_flight.specs.declared.run.Waits.{Waits}
-use Rattle.futures_buffered_in_flight.proofs.InFlightLemmas.{less_after, none_can_poll, same_slots}
+use Rattle.futures_buffered_in_flight.proofs.InFlightLemmas.{NoNewPlace, freed_places, less_after, none_can_poll, same_places}
 use Rattle.futures_buffered_in_flight.proofs.InFlightQueueLemmas.{its_place, polled_room}
 
--- what a slot holds after a call, it held before
-abbrev NoNewPlace : {St : Type 0} → Streams St → Streams St → Type 0
-NoNewPlace old new = (i : ℕ) (place : Place ℕ) → value_in new.slots i ≡ Some place → value_in old.slots i ≡ Some place
-
 module _ {St A : Type 0} (stream : StreamOf St A) where
-  goes_on : (old new : Streams St) → NoNewPlace old new → FlightsGiveNoMore (next_of stream) old new → StreamsGoOn stream old new
+  goes_on : (old new : Streams St) → NoNewPlace (next_of stream) old new → FlightsGiveNoMore (next_of stream) old new → StreamsGoOn stream old new
   goes_on old new places narrows key xs last h =
       record { push = h.push; given = h.given; runs = places key.slot _ h.runs; gives = narrows _ h.gives; comes = h.comes }
 
-  same_places : (old new : Streams St) → new.slots ≡ old.slots → NoNewPlace old new
-  same_places old new same i place holds = subst (λ (s : Slots (Place ℕ)). value_in s i ≡ Some place) same holds
-
-  freed_places : (old new : Streams St) (slot : ℕ) → new.slots ≡ with_slot_freed old.slots slot → NoNewPlace old new
-  freed_places old new slot freed i place holds =
-      let after = subst (λ (s : Slots (Place ℕ)). value_in s i ≡ Some place) freed holds in
-      elim (cases_eq i slot) [
-        | inl at ↦ absurd (None-Some (sym (value_in-with_slot_freed old.slots slot) ∙ subst (λ i. value_in (with_slot_freed old.slots slot) i ≡ Some place) at after))
-        | inr other ↦ sym (value_in-with_slot_freed_other old.slots slot i other) ∙ after
-      ]
-
-  wide_places : (old wide : Streams St) → MakesRoom old wide → NoNewPlace old wide
-  wide_places old wide (inl same) i place holds = same_places old wide (ap (λ (s : Streams St). s.slots) same.1) i place holds
+  wide_places : (old wide : Streams St) → MakesRoom old wide → NoNewPlace (next_of stream) old wide
+  wide_places old wide (inl same) i place holds = same_places (next_of stream) old wide (ap (λ (s : Streams St). s.slots) same.1) i place holds
   wide_places old wide (inr made) i place holds = sym (ap (λ ps. get_or ps i None) made.1.slots.0 ∙ get_or-push_default old.slots.places None i) ∙ holds
 
   -- what may come after the next answer of a stream
@@ -131,13 +116,13 @@ module _ {St A : Type 0} (stream : StreamOf St A) where
   pub stays_pending : (old new : Streams St) (cx left : Context) → PollsInFlight (next_of stream) old Pending new cx left → PollsMerge stream old Pending new cx left
   stays_pending old new cx left p =
       let same = ap (λ (s : Slots (Place ℕ)). held_count s) p.gave.1 in
-      let on = goes_on old new (same_places old new p.gave.1) p.narrows in
+      let on = goes_on old new (same_places (next_of stream) old new p.gave.1) p.narrows in
       grind arith
 
   pub came_none : (old new : Streams St) (cx left : Context) → PollsInFlight (next_of stream) old (Ready None) new cx left → PollsMerge stream old (Ready None) new cx left
   came_none old new cx left p =
       let same = ap (λ (s : Slots (Place ℕ)). held_count s) p.gave.1 in
-      let on = goes_on old new (same_places old new p.gave.1) p.narrows in
+      let on = goes_on old new (same_places (next_of stream) old new p.gave.1) p.narrows in
       grind arith
 
   -- what is left of a stream after an item may be polled
@@ -161,7 +146,7 @@ module _ {St A : Type 0} (stream : StreamOf St A) where
 
   module _ (old mid : Streams St) (came : Came (Option A × St) ℕ) (cx at : Context) (p : PollsInFlight (next_of stream) old (Ready (Some came)) mid cx at) where
     mid_goes_on : StreamsGoOn stream old mid
-    mid_goes_on = goes_on old mid (freed_places old mid came.key.slot p.gave.freed) p.narrows
+    mid_goes_on = goes_on old mid (freed_places (next_of stream) old mid came.key.slot p.gave.freed) p.narrows
 
     -- after an answer there is room for the stream
     pub room_again : room_taken old ≤ flight_slots old → room_taken mid < flight_slots mid
@@ -198,7 +183,7 @@ module _ {St A : Type 0} (stream : StreamOf St A) where
     ends is new same = inr (let count = ap (λ (s : Slots (Place ℕ)). held_count s) same in omega (arith, count, p.gave.fewer), (record { slot = came.key.slot; push = came.tag }, [], first [] None is))
 
     mid_on : (new : Streams St) → new.slots ≡ mid.slots → FlightsGiveNoMore (next_of stream) mid new → StreamsGoOn stream old new
-    mid_on new same less k xs last h = mid_goes_on k xs last (goes_on mid new (same_places mid new same) less k xs last h)
+    mid_on new same less k xs last h = mid_goes_on k xs last (goes_on mid new (same_places (next_of stream) mid new same) less k xs last h)
 
     -- the last stream has ended
     pub all_ended : (new : Streams St) → came.output.0 ≡ None → held_count old.slots ≤ 1 → new.cancelled ≡ 0 → new.slots ≡ mid.slots → new.next ≡ mid.next → FlightsGiveNoMore (next_of stream) mid new → CanPollAll (next_of stream) new

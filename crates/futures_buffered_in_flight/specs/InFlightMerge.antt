@@ -41,13 +41,9 @@ abbrev pub IsNewMerge : {St : Type 0} → ℕ → Merged St → Type 0
 IsNewMerge n m = (streams_held m ≡ 0) × (m.limit ≡ n) × (m.set.running ≡ None) × (m.set.waiting ≡ [])
     × (m.set.cancelled ≡ 0)
 
--- the stream of this key is held, and the future of its next answer has the number `push`
-abbrev pub RunsAs : {St : Type 0} → Streams St → Key → ℕ → Type 0
-RunsAs set key push = IsHeld set (record { slot = key.slot; push = push }) key.push
-
--- the stream of this key is held
+-- the stream of this key is held; `push` is the number of the future of its next answer
 abbrev pub HoldsStream : {St : Type 0} → Streams St → Key → Type 0
-HoldsStream set key = (push : ℕ) × RunsAs set key push
+HoldsStream set key = (push : ℕ) × IsHeld set (record { slot = key.slot; push = push }) key.push
 
 -- the place at which a pending poll waits: the place of the set
 abbrev pub MergedWaitsAt : {St : Type 0} → Merged St → ℕ → Type 0
@@ -81,7 +77,7 @@ module _ {St A : Type 0} (stream : StreamOf St A) where
   pub record ComesOfStream (set : Streams St) (key : Key) (xs : List A) (last : Option A) : Type 0 where
     pub push : ℕ
     pub given : Option A × St
-    pub runs : RunsAs set key push
+    pub runs : IsHeld set (record { slot = key.slot; push = push }) key.push
     pub gives : MayCome next_of set (record { slot = key.slot; push = push }, Some given)
     pub comes : AnswersThen given xs last
 

@@ -1,4 +1,4 @@
-//! Sets and queues that hold futures of the crate `futures` as they are.
+//! Sets, queues and merges that hold futures and streams of the crate `futures` as they are.
 //!
 //! No lock and no cell is between a set and its futures. Apart from `Kept`, no type has a bound other than `Drop`, so
 //! that a future may contain closures. What a poll requires of the futures is in `requires`, as in the sets of
@@ -11,10 +11,12 @@
 //!   `in_flight_stream` has both as a stream, and `in_flight_queue` both as an adaptor or a queue holds them.
 //! - `in_flight_ordered`: `FuturesOrderedBounded` and `FuturesOrdered`, queues with pushes at both ends, whose outputs
 //!   come from the front; `in_flight_ordered_stream` has both as a stream.
+//! - `in_flight_merge`: `MergeBounded` and `MergeUnbounded`, one type, a set of futures of the next items of streams;
+//!   `merge` and `merge_unbounded` make it from an iterator.
 //! - `from_iter`: sets and queues that are made of the items of an iterator.
 //! - `kept`: `Kept`, which keeps that a set or a queue may be polled, for loops by hand.
-//! - `waiting`: `Waiting`, which holds a set or an ordered queue while a task waits for its next output, and then
-//!   returns it.
+//! - `waiting`: `Waiting`, which holds a set, an ordered queue or a merge while a task waits for its next output, and
+//!   then returns it.
 #![tactic(auto)]
 
 mod bells;

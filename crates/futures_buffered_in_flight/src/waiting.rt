@@ -1,4 +1,4 @@
-//! Sets and queues in flight, while a task waits for their next output.
+//! Sets, queues and merges in flight, while a task waits for their next output.
 ghost use Rattle.std.specs.Prelude.{◌≡◌, Some, IfOk, IsSomeAnd};
 ghost use Rattle.futures_buffered_in_flight.specs.InFlight.{CameInFlight, CanPollAll, FlightsWaitAt};
 ghost use Rattle.futures_buffered_in_flight.specs.InFlightMerge.{CameOfMerge, CanPollStreams, MergedWaitsAt};
@@ -15,11 +15,11 @@ use std::io;
 use std::random::RandomSource;
 use std::sync::Wait;
 
-/// A future of the next output of a set or a queue, or of its `None`. It returns the set or the queue too, so what is
-/// known of these stays known.
+/// A future of the next output of a set, a queue or a merge, or of its `None`. It returns the set, the queue or the
+/// merge too, so what is known of these stays known.
 #[derive(Drop)]
 pub struct Waiting<S> {
-    // `None` once the set or the queue was returned.
+    // `None` once that was returned.
     held: Option<S>,
 }
 

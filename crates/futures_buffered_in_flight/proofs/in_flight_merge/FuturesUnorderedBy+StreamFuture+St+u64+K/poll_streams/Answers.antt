@@ -1,4 +1,4 @@
-use Rattle.std.proofs.Common.{rules, arith}
+use Rattle.std.proofs.Common.{rules}
 use Rattle.futures_buffered_in_flight.proofs.InFlightMergeLemmas.{all_ended, came_none, item, one_ended, rest_can_poll, stays_pending}
 use Rattle.futures_buffered_in_flight.proofs.in_flight_merge.FuturesUnorderedBy+StreamFuture+St+u64+K.poll_streams.Goals as goal
 
