@@ -4,6 +4,7 @@ use Rattle.std.proofs.Common.{[], ◌∷◌, ◌++◌, length, take, get_or, Opt
 use Rattle.std.proofs.Common.{IfNone, is_some, codes, Result, Ok, Err, MatchResult, rules, refl}
 use Rattle.std.proofs.Common.{sym, ap, arith, inl, inr, true≢false, ◌∙◌}
 use lib.Pointwise.{pointwise}
+use Rattle.std.proofs.Math.Seq.{take-length}
 use Rattle.std.specs.Borrow.{Bor}
 use Rattle.std.specs.Result.{result_ok}
 use Rattle.std.specs.Str.{IsUtf8}
@@ -31,15 +32,18 @@ abbrev pub IsRest : List ℕ → Type 0
 IsRest [] = Unit {0}
 IsRest (b ∷ rest) = b ≡ 32
 
-pub HasNoSpace-take : (text : List ℕ) (k : ℕ) → k ≤ length text → IsAbsentBefore 32 text k
+pub no_space_before : (text : List ℕ) (k : ℕ) → k ≤ length text → IsAbsentBefore 32 text k
     → HasNoSpace (take k text)
-HasNoSpace-take text zero within none = refl
-HasNoSpace-take [] (suc k) within none = refl
-HasNoSpace-take (b ∷ text) (suc k) within none =
+no_space_before text zero within none = refl
+no_space_before [] (suc k) within none = refl
+no_space_before (b ∷ text) (suc k) within none =
     elim (eqb_tells b 32) [
       | inl same ↦ absurd (none 0 (omega arith) (omega arith) same.0)
-      | inr other ↦ or_from (eqb b 32) (list_any (λ x. eqb x 32) (take k text)) (other.0) (HasNoSpace-take text k (omega arith) (IsAbsentBefore-rest 32 b k text none))
+      | inr other ↦ or_from (eqb b 32) (list_any (λ x. eqb x 32) (take k text)) (other.0) (no_space_before text k (omega arith) (IsAbsentBefore-rest 32 b k text none))
     ]
+
+pub no_space_in : (text : List ℕ) → IsAbsentBefore 32 text (length text) → HasNoSpace text
+no_space_in text none = rw (take-length text) at (no_space_before text (length text) (omega arith) none)
 
 first_no_space : (b : ℕ) (word : List ℕ) → HasNoSpace (b ∷ word) → b ≡ 32 → ⊥
 first_no_space b word none space = true≢false (sym (or_left (eqb b 32) (list_any (λ x. eqb x 32) word) (eq-eqb b 32 space)) ∙ none)

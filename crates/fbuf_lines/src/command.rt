@@ -41,6 +41,7 @@ pub enum Command {
 }
 
 // Returns the text before the first space, and the text after it.
+#[tactic(auto, using(crate::proofs::CommandLemmas::no_space_before, crate::proofs::CommandLemmas::no_space_in))]
 fn cut(text: &[u8]) -> (&[u8], Option<&[u8]>)
     ensures whole { text.now ≡ result.0.now ++ rest_text result.1 }
     ensures word { HasNoSpace result.0.now }
