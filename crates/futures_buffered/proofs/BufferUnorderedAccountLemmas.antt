@@ -1,6 +1,6 @@
 -- Where each value held came from, and that no item drawn is lost or counted twice.
 use Rattle.std.proofs.Common.{◌≡◌, ℕ, zero, suc, ◌<◌, List, [], ◌∷◌, ◌++◌, length, set, get_or, filter_map, Option, Some, None, Result, MatchOption, IsSomeAnd, is_some, count_by, cond, refl, sym, subst, inl, inr, arith, append-nil, ◌∙◌, length-set}
-use Rattle.futures_buffered.proofs.Common.{IsPermutation, option_to_list, FoldsTo, AllZip, FoldsTo-push, get_or-set_other, get_or-set_same, cases_eq, sum_by-cons, Poll, Ready, Pending, Slots, value_in, with_value, Inserts, Woke, Passes, Bounded, Pushes, held_in, ReadySourceOf, SlotFutureOf, PollsBounded, itself, OfSomeTask, OnlyPushes, StreamOf, Accounts, PollsStream, output_given, PendsTo, WaitsInSlot, MayGiveInSlot, LosesNothing, TryLosesNothing, held_values, PushesOk, same_Some, none-some}
+use Rattle.futures_buffered.proofs.Common.{IsPermutation, option_to_list, chained_keeps, FoldsTo, AllZip, FoldsTo-push, get_or-set_other, get_or-set_same, cases_eq, sum_by-cons, Poll, Ready, Pending, Slots, value_in, with_value, Woke, Passes, Bounded, Pushes, held_in, ReadySourceOf, SlotFutureOf, PollsBounded, itself, OfSomeTask, OnlyPushes, StreamOf, Accounts, PollsStream, output_given, PendsTo, WaitsInSlot, MayGiveInSlot, LosesNothing, TryLosesNothing, held_values, PushesOk, same_Some, none-some}
 use Rattle.std.proofs.lemmas.List.{set-get_or, set-set}
 use Rattle.std.proofs.lemmas.List.Sorted.{IsPermutation-refl, IsPermutation-sym, IsPermutation-trans, IsPermutation-cons, IsPermutation-middle, IsPermutation-append_right, IsPermutation-push_more, IsPermutation-pop_more}
 use Rattle.std.proofs.lemmas.Slice.Zip.{all_zipped_more}
@@ -50,12 +50,11 @@ waits_more polled f g h w p = (w.0 ++ h ∷ [], FoldsTo-push (λ a b c. polled a
 
 -- what each pending poll keeps, a run of names keeps
 pub passes_keep : {F A : Type 0} (polled : ℕ → F → Poll A → F → Type 0) (P : Slots F → Type 0) → ((m : Slots F) (i : ℕ) (f left : F) → value_in m i ≡ Some f → polled i f Pending left → P m → P (with_value m i left)) → (names : List ℕ) (m left : Slots F) → FoldsTo (Passes polled) m names left → P m → P left
-passes_keep polled P keeps [] m left passes holds = subst P passes holds
-passes_keep {F} polled P keeps (i ∷ names) m left passes holds = passes_keep polled P keeps names passes.0 left passes.2 (by_value (value_in m i) refl passes.1)
+passes_keep {F} polled P keeps names m left passes holds = chained_keeps (Passes polled) (λ _ slots. P slots) (λ _ slots i next held pass. by_value slots i next held (value_in slots i) refl pass) names m left holds passes
   where
-    by_value : (o : Option F) → value_in m i ≡ o → MatchOption o (passes.0 ≡ m) (λ f. (now : F) × polled i f Pending now × (passes.0 ≡ with_value m i now)) → P passes.0
-    by_value None e h = subst P (sym h) holds
-    by_value (Some f) e h = subst P (sym h.2) (keeps m i f h.0 e h.1 holds)
+    by_value : (slots : Slots F) (i : ℕ) (next : Slots F) → P slots → (o : Option F) → value_in slots i ≡ o → MatchOption o (next ≡ slots) (λ f. (now : F) × polled i f Pending now × (next ≡ with_value slots i now)) → P next
+    by_value slots i next held None e h = subst P (sym h) held
+    by_value slots i next held (Some f) e h = subst P (sym h.2) (keeps slots i f h.0 e h.1 held)
 
 module _ {F A : Type 0} (polled : ℕ → F → Poll A → F → Type 0) where
   -- pending polls, with the waker of its slot, took each item to what its place holds

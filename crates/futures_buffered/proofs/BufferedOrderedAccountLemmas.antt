@@ -1,6 +1,6 @@
 -- That the outputs of an ordered buffer are those of the first items drawn, in order, and that no item drawn is lost.
-use Rattle.std.proofs.Common.{◌≡◌, ◌≢◌, ℕ, zero, suc, ◌+◌, ◌≤◌, Bool, List, [], ◌∷◌, ◌++◌, set, Option, Some, None, Result, MatchOption, cond, count_by, refl, sym, ap, subst, inl, inr, ◌∙◌, append-nil, append_assoc, length, arith}
-use Rattle.futures_buffered.proofs.Common.{option_to_list, FoldsTo, AllZip, slice_get, get_or-set_other, sum_by-cons, sum_by_push, cases_eq, eq-eqb, Poll, Ready, Pending, Slots, value_in, with_value, with_slot_freed, Inserts, Woke, Passes, Yields, held_in, PollOneOf, itself, apart, value_in-with_value, value_inserted, value_inserted_other, value_in-with_slot_freed_other, PollsNumbered, held_with, one_at, AddsBack, Entry, IsUnused, Kept, LastStep, OrderedGives, Running, SetYields, runs_with, OrderedBounded, PushesNumber, SetGives, Numbered, count-names, in_slots, none_held, numbers_inserted, numbers_polled, unused_none, ReadySourceOf, SlotFutureOf, OnlyPushes, StreamOf, Accounts, PollsStream, output_given, PendsTo, MayGiveInSlot, BecomesEntry, GivesInOrder, TryGivesInOrder, queue_len, PushesOk, same_Some}
+use Rattle.std.proofs.Common.{◌≡◌, ◌≢◌, ℕ, zero, suc, ◌+◌, ◌≤◌, Bool, List, [], ◌∷◌, ◌++◌, set, Option, Some, None, Result, cond, count_by, refl, sym, ap, subst, inl, inr, ◌∙◌, append-nil, append_assoc, arith}
+use Rattle.futures_buffered.proofs.Common.{option_to_list, chained_keeps, FoldsTo, AllZip, slice_get, get_or-set_other, sum_by-cons, sum_by_push, cases_eq, eq-eqb, Poll, Ready, Pending, Slots, value_in, with_value, with_slot_freed, Inserts, Woke, Passes, Yields, held_in, PollOneOf, itself, apart, value_in-with_value, value_inserted, value_inserted_other, value_in-with_slot_freed_other, PollsNumbered, held_with, one_at, AddsBack, Entry, IsUnused, Kept, LastStep, OrderedGives, Running, SetYields, runs_with, OrderedBounded, PushesNumber, SetGives, Numbered, count-names, in_slots, none_held, numbers_inserted, numbers_polled, unused_none, ReadySourceOf, SlotFutureOf, OnlyPushes, StreamOf, Accounts, PollsStream, output_given, PendsTo, MayGiveInSlot, BecomesEntry, GivesInOrder, TryGivesInOrder, queue_len, PushesOk, same_Some}
 use Rattle.std.proofs.lemmas.Bool.Decides.{eqb_tells}
 use Rattle.std.proofs.lemmas.List.{nil_from_length}
 use Rattle.std.proofs.lemmas.Slice.Zip.{all_zipped_more}
@@ -167,10 +167,6 @@ module _ {R F W A S : Type 0} (rule : PollOneOf R F W A) (source : ReadySourceOf
             omega (arith, so.as_many n, numbers_polled n rule source old.set new.set (Ready (Some (i, x))) cx after poll, runs-set n i h.at old.entries x h.was_running, ap (λ (l : List (Entry A)). count_by (runs_with n) l) h.entries);
       }
 
-  row_kept : (row : List (ℕ × A)) (drawn : List F) (outputs : List A) (old before : OrderedBounded F A S) → SoFar rule.polled drawn outputs old → FoldsTo (SetYields (SetGives rule source)) old row before → SoFar rule.polled drawn outputs before
-  row_kept [] drawn outputs old before so h = subst (SoFar rule.polled drawn outputs) h so
-  row_kept ((i, x) ∷ row) drawn outputs old before so h = row_kept row drawn outputs h.0 before (one_kept drawn outputs old h.0 i x so h.1) h.2
-
   -- the front left with its output
   front_gave : (drawn : List F) (outputs : List A) (before new : OrderedBounded F A S) (x : A) → SoFar rule.polled drawn outputs before → before.entries ≡ Kept x ∷ new.entries → new.set ≡ before.set → SoFar rule.polled drawn (outputs ++ x ∷ []) new
   front_gave drawn outputs before new x so front same = by_kept so.kept so.all (subst (λ (l : List (Entry A)). AllZip (BecomesEntry rule.polled before.set.slots) so.kept l) front so.came)
@@ -192,7 +188,7 @@ module _ {R F W A S : Type 0} (rule : PollOneOf R F W A) (source : ReadySourceOf
   one_poll drawn outputs old new answer so h = last_one answer h.last_step
     where
       then : SoFar rule.polled drawn outputs h.before
-      then = row_kept h.yielded drawn outputs old h.before so h.row
+      then = chained_keeps (SetYields (SetGives rule source)) (λ _ q. SoFar rule.polled drawn outputs q) (λ _ q out v kept step. one_kept drawn outputs q v out.0 out.1 kept step) h.yielded old h.before so h.row
 
       last_one : (answer : Poll (Option A)) → LastStep (SetGives rule source) h.before answer new → SoFar rule.polled drawn (outputs ++ option_to_list (output_given answer)) new
       last_one (Ready None) step = rw (append-nil outputs) (subst (SoFar rule.polled drawn outputs) (sym step.1) then)

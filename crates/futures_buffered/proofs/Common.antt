@@ -1,13 +1,13 @@
 -- The names that proofs of this crate use in more than one file.
-pub use Rattle.std.proofs.Common.{Bool, Err, None, Ok, Option, Result, Some, false, is_some, refl, rules, sym, ◌∙◌}
-pub use Rattle.std.proofs.lemmas.Bool.{cases_eq, cases_lt, eq-eqb}
+pub use Rattle.std.proofs.Common.{Bool, Err, None, Ok, Option, Result, Some, false, refl, sym, ◌∙◌}
+pub use Rattle.std.proofs.lemmas.Bool.{cases_eq, eq-eqb}
 pub use Rattle.std.proofs.lemmas.Fn.{FoldsTo-push, chained_keeps}
-pub use Rattle.std.proofs.lemmas.List.{get_or-set_other, get_or-set_same, get_or_past, length-replicate, length_push, map-append, map-id}
+pub use Rattle.std.proofs.lemmas.List.{get_or-set_other, get_or-set_same, length-replicate, length_push, map-append, map-id}
 pub use Rattle.std.proofs.lemmas.List.Sums.{count_by-le-length, get_or-le-sum_by, sum_by-cons, sum_by-set, sum_by_push}
 pub use Rattle.std.proofs.lemmas.Option.{none-some, same_Some}
-pub use Rattle.std.specs.List.{AllZip, FoldsTo, slice_get, sum_by}
+pub use Rattle.std.specs.List.{AllZip, FoldsTo, slice_get}
 pub use Rattle.std.specs.Option.{option_to_list}
-pub use Rattle.std.specs.Prelude.{IsPermutation, ⊤}
+pub use Rattle.std.specs.Prelude.{IsPermutation}
 pub use Rattle.futures.specs.Poll.{IfReady, OnPending}
 pub use Rattle.futures.specs.Runs.{After, AllItems, Calls, Chains, Ends, Leads, Resolves, Runs, Turns, Within, firsts, seconds}
 pub use Rattle.futures.specs.Task.{Covers, Hears, Keeps, Lasting}
@@ -17,7 +17,7 @@ pub use Rattle.futures.specs.declared.task.context.Context.{Context}
 pub use Rattle.futures_buffered_core.specs.SlotMap.{Inserts, Slots, held_count, value_in, with_slot_freed, with_value}
 pub use Rattle.futures_buffered_core.specs.declared.ready_source.ReadySource.{Ghosts as ReadySourceOf}
 pub use Rattle.futures_buffered_ordered.proofs.NumberedLemmas.{count-names, in_slot, in_slots, none_held, numbers_inserted, numbers_polled}
-pub use Rattle.futures_buffered_ordered.proofs.OrderedEntriesLemmas.{as_many_of, comes_behind, empty_of, fewer_of, no_more_of, one_entry_more, unused_none}
+pub use Rattle.futures_buffered_ordered.proofs.OrderedEntriesLemmas.{as_many_of, comes_behind, empty_of, fewer_of, no_more_of, unused_none}
 pub use Rattle.futures_buffered_ordered.specs.FuturesOrderedBounded.{EachRunning, OrderedBounded, PollsOrderedBounded, PushesNumber, SetGives, SetMayGive}
 pub use Rattle.futures_buffered_ordered.specs.Numbered.{CanPollFuture, PollsNumbered, held_with, one_at}
 pub use Rattle.futures_buffered_ordered.specs.OrderedEntries.{AddsBack, ComesInOrder, EachHasOne, Entry, InTurn, IsUnused, Kept, LastStep, Ordered, OrderedGives, Running, SetYields, runs_with, starts_running}

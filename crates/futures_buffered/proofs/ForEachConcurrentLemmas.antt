@@ -1,16 +1,11 @@
 -- What one turn of a for-each leaves.
 use Rattle.std.proofs.Common.{◌≡◌, ◌⊎◌, is_some, ℕ, ◌<◌, ◌≤◌, [], ◌∷◌, Option, Some, None, Bool, true, false, refl, inl, inr, arith, length, ◌∙◌, IfSome}
-use Rattle.futures_buffered.proofs.Common.{chained_keeps, Covers, Keeps, OnPending, Context, Poll, Ready, Pending, Calls, firsts, IsWoken, Buffering, DrawsTask, FutureQueueOf, PollsStream, StreamOf, WaitsAt, PollsFutureQueue, PushLeavesQueue, Ahead, PollsInTurns, TakesTurn, TurnLeaves, so_far, DrawsNone, AsksStream}
+use Rattle.futures_buffered.proofs.Common.{chained_keeps, Covers, Keeps, OnPending, Context, Poll, Ready, Pending, Calls, firsts, IsWoken, Buffering, DrawsTask, FutureQueueOf, PollsStream, StreamOf, WaitsAt, PollsFutureQueue, Ahead, PollsInTurns, TakesTurn, TurnLeaves, so_far, DrawsNone, AsksStream}
 use Rattle.std.specs.Fn.{Mut}
-use Rattle.futures_buffered.specs.ForEachConcurrent.{ForEach, TurnGives, DrawsOnce, turn_answer, CanForEach, MayEnd, for_each_of}
+use Rattle.futures_buffered.specs.ForEachConcurrent.{ForEach, PollsForEach, TurnGives, DrawsOnce, turn_answer, CanForEach, MayEnd, for_each_of}
 use Rattle.futures_buffered.proofs.TurnsLemmas.{GoesOn}
 use Rattle.futures.proofs.RunLemmas.{AtEachItem-Within}
 use Rattle.futures_buffered.proofs.BufferLemmas.{none_drawn, polled_can, waits_empty, waits_pending}
-
--- a push does not change the limit, also if it returns an answer
-pub push_limit : {F A Q : Type 0} (count room limit : Q → ℕ) (pushes : Q → F → Option A → Q → Type 0) (old : Q) (item : F) (given : Option A) (new : Q) → (pushes old item None new → limit new ≡ limit old) → pushes old item given new → PushLeavesQueue count room old given new → limit new ≡ limit old
-push_limit count room limit pushes old item None new keeps pushed push = keeps pushed
-push_limit count room limit pushes old item (Some x) new keeps pushed push = rw push.stays refl
 
 module _ {St X Fn F Q : Type 0} (stream : StreamOf St X) (closure : Mut Fn (X × Unit {0}) F) (queue : FutureQueueOf Q F (Unit {0})) where
   -- what the first part of a turn leaves that took no item
@@ -85,9 +80,8 @@ module _ {St X Fn F Q : Type 0} (stream : StreamOf St X) (closure : Mut Fn (X ×
         }
 
     -- no poll changes how many the queue can hold, and no more are held after a poll
-    pub fits : (old new : ForEach St Fn Q) (answer : Poll (Unit {0})) (cx left : Context) → PollsInTurns (for_each_of stream closure queue limit) old answer new cx left
-        → (queue.room new.buffer.queue ≡ queue.room old.buffer.queue) × (queue.count new.buffer.queue ≤ queue.room new.buffer.queue)
-    fits old new answer cx left poll = by_ends poll.ends
+    pub polled_of : (old new : ForEach St Fn Q) (answer : Poll (Unit {0})) (cx left : Context) → PollsInTurns (for_each_of stream closure queue limit) old answer new cx left → PollsForEach stream closure queue limit old answer new cx left
+    polled_of old new answer cx left poll = let fits = by_ends poll.ends in record { called = poll; same_room = fits.0; bound = fits.1 }
       where
         so : (queue.room poll.before.0.buffer.queue ≡ queue.room old.buffer.queue) × (0 < length poll.turns → queue.count poll.before.0.buffer.queue ≤ queue.room poll.before.0.buffer.queue)
         so = chained_keeps (GoesOn (for_each_of stream closure queue limit))

@@ -1,5 +1,5 @@
 -- What a push and a poll of futures in flight are to a buffer.
-use Rattle.std.proofs.Common.{◌≡◌, ◌<◌, ℕ, List, [], inl, inr, length, Option, Some, None, false, true, ap, refl, sym, subst, arith}
+use Rattle.std.proofs.Common.{◌≡◌, ◌<◌, ℕ, List, [], inl, inr, length, Option, Some, None, Ok, false, true, rules, ap, refl, sym, subst, arith}
 use Rattle.futures_buffered.proofs.Common.{Poll, Ready, Pending, Context, Within, Slots, held_count, stream_of, Gathers-Within, Gathers-After, Entry, Ordered, Buffering, StreamOf, AddsOutput, LeavesHeld, PollsFutureQueue, PushAddsOutput, PushLeavesQueue}
 use Rattle.futures_buffered_in_flight.specs.InFlight.{AnySlotGives, ComesFromSlots, Flights, FlightsWaitAt, FutureOf, flight_slots}
 use Rattle.futures_buffered_in_flight.specs.InFlightOrdered.{AnswersInTurn, CanPollOrdered, ComesOfEach, EntersBack, OrderedWaitsAt, ordered_room}
@@ -10,14 +10,17 @@ use Rattle.futures_buffered_in_flight.proofs.InFlightOrderedLemmas.{answers_in_t
 pub use Rattle.futures_buffered_in_flight.proofs.InFlightQueueLemmas.{new_can_poll}
 use Rattle.futures_buffered_in_flight.proofs.InFlightQueueLemmas.{added_gives, added_one, flight_count, kept_room, polled_room}
 use Rattle.futures_buffered_in_flight.specs.InFlightQueue.{CanPollQueue, PollsQueued, PushesQueued}
+use Rattle.futures_buffered_core.specs.Made.{MakesSlots}
 use Rattle.futures_buffered.specs.Buffer.{IsNewBuffer}
 use Rattle.futures_buffered_unordered.proofs.StreamAnswersLemmas.{answers_of}
 use Rattle.futures_buffered.proofs.BufferedOrderedLemmas.{starts_some}
 use Rattle.futures_buffered.proofs.BufferUnorderedLemmas.{some_held}
 
--- a buffer that was made over a new queue
-pub new_buffer : {St Q : Type 0} (is_new : Q → Type 0) (stream : St) (queue : Q) (b : Buffering St Q) → b ≡ record { stream = Some stream; queue = queue } → is_new queue → IsNewBuffer is_new stream b
-new_buffer is_new stream queue b is new = rw is (record { same_stream = refl; new_queue = new })
+-- a call that made a queue, and then a buffer over it
+pub makes_buffer : {St Q : Type 0} (n : ℕ) (is_new : Q → Type 0) (stream : St) (queue : Q) (b : Buffering St Q) → MakesSlots n is_new (Ok queue) → b ≡ record { stream = Some stream; queue = queue } → MakesSlots n (IsNewBuffer is_new stream) (Ok b)
+makes_buffer n is_new stream queue b made is =
+    let fits = made.refuses.fits in
+    record { made = rw is (record { same_stream = refl; new_queue = made.made }); refuses = search (rules, fits) }
 
 -- how many an ordered queue holds
 abbrev entry_count : {F A : Type 0} → Ordered (Flights F ℕ) A → ℕ

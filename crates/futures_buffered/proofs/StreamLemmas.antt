@@ -65,10 +65,15 @@ module _ {F A : Type 0} (gives : F → A → Type 0) (h : F → A) (exact : (f :
   at_the_end source pairs None outputs came same ends = (firsts pairs, came, same)
   at_the_end source pairs (Some x) outputs came same ends = absurd ends.1
 
+  -- if a stream of such futures has ended, the outputs are h of each, in their order
+  pub resolved : (source : Runs F) (outputs : List A) → Resolves gives source outputs None
+      → (futures : List F) × source futures None × (outputs ≡ map h futures)
+  resolved source outputs came =
+      at_the_end source came.pairs came.next outputs came.came (came.gave ∙ in_turn tt came.pairs came.state came.turned) came.ends
+
   -- each future gives h, so collect gives map h: of an adaptor that holds nothing yet, over such a stream
   pub collected : {St : Type 0} (yields : St → Runs F) (held : Option St) (stream : St) (before : Runs A) (outputs : List A) → held ≡ Some stream
       → ((xs : List A) → before xs None → xs ≡ []) → Chains before (Resolves gives (Ahead yields held)) outputs None
       → (futures : List F) × yields stream futures None × (outputs ≡ map h futures)
   collected yields held stream before outputs same none came =
-      let ended = subst (λ o. Resolves gives (Ahead yields o) outputs None) same (behind_nothing before (Resolves gives (Ahead yields held)) outputs none came) in
-      at_the_end (yields stream) ended.pairs ended.next outputs ended.came (ended.gave ∙ in_turn tt ended.pairs ended.state ended.turned) ended.ends
+      resolved (yields stream) outputs (subst (λ o. Resolves gives (Ahead yields o) outputs None) same (behind_nothing before (Resolves gives (Ahead yields held)) outputs none came))

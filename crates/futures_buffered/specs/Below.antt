@@ -11,9 +11,9 @@ pub use Rattle.futures_buffered_core.specs.ReadyShared.{IsNewShared, MarksShared
 pub use Rattle.futures_buffered_core.specs.SlotMap.{Slots, held_count, slot_count, value_in}
 pub use Rattle.futures_buffered_core.specs.declared.ready_source.ReadySource.{Ghosts as ReadySourceOf}
 pub use Rattle.futures_buffered_in_flight.specs.InFlightQueue.{CanPollQueue, PollsQueued, PushesQueued}
-pub use Rattle.futures_buffered_ordered.specs.FuturesOrderedBounded.{EachRunning, HoldsInOrder, IsNewBoundedQueue}
+pub use Rattle.futures_buffered_ordered.specs.FuturesOrderedBounded.{HoldsInOrder, IsNewBoundedQueue}
 pub use Rattle.futures_buffered_ordered.specs.FuturesOrderedBounded.{OrderedBounded, PollsOrderedBounded, PushesNumber}
-pub use Rattle.futures_buffered_ordered.specs.FuturesOrderedBounded.{SetGives, SetMayGive}
+pub use Rattle.futures_buffered_ordered.specs.FuturesOrderedBounded.{SetGives}
 pub use Rattle.futures_buffered_unordered.specs.FuturesUnorderedBounded.{Bounded, HoldsEach, IsNewSet, IsWoken, Pushes}
 pub use Rattle.futures_buffered_unordered.specs.FuturesUnorderedBounded.{held_in, slots_in}
 pub use Rattle.futures_buffered_unordered.specs.PollsBounded.{PollsBounded, itself}

@@ -76,6 +76,7 @@ impl<F: SlotFuture<S::Waker>, S: ReadySource> FutureQueue<F> for CompletionQueue
         self.set.capacity()
     }
 
+    #[tactic(auto, using(crate::proofs::BufferUnorderedLemmas::one_more, crate::proofs::BufferUnorderedLemmas::pushed_can))]
     fn push(&mut self, future: F) -> Option<F::Output> {
         self.set.push(future);
         None

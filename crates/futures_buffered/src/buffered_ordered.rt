@@ -80,6 +80,7 @@ impl<F: SlotFuture<S::Waker, Output = A>, A: Drop, S: ReadySource> FutureQueue<F
         self.queue.capacity()
     }
 
+    #[tactic(auto, using(crate::proofs::BufferUnorderedLemmas::one_more, crate::proofs::BufferedOrderedLemmas::pushed_can))]
     fn push(&mut self, future: F) -> Option<A> {
         prove!(self.queue.len() < self.queue.capacity());
         self.queue.push_back(future);

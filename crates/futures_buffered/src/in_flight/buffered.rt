@@ -26,7 +26,7 @@ use std::alloc::Global;
 pub trait BufferedStreamExt: Stream + Sized {
     /// Returns a stream of the outputs of this stream's futures, in the order of this stream. It holds at most `n`
     /// futures at a time: in progress, or done with an output that waits for its turn.
-    #[tactic(auto, using(crate::proofs::InFlightLemmas::new_buffer))]
+    #[tactic(auto, using(crate::proofs::InFlightLemmas::makes_buffer))]
     final fn buffered_ordered(
         self,
         alloc: Global,

@@ -28,7 +28,6 @@ pub trait BufferedTryStreamExt: Stream + Sized {
     /// Returns a stream of the outputs of this stream's futures, in the order of this stream. It holds at most `n`
     /// futures at a time: in progress, or done with an output that waits for its turn. A poll returns each error of
     /// this stream as soon as it takes the error from it.
-    #[tactic(auto, using(crate::proofs::InFlightLemmas::new_buffer))]
     final fn try_buffered_ordered<F, T, E>(
         self,
         alloc: Global,

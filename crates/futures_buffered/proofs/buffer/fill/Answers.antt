@@ -1,9 +1,6 @@
-use Rattle.std.proofs.Common.{[], refl}
+use Rattle.std.proofs.Common.{refl}
 use Rattle.futures_buffered.proofs.BufferLemmas.{fill_gave, fill_item, fill_none}
 use Rattle.futures_buffered.proofs.buffer.fill.Goals as goal
-
-pub draws-init : goal.draws-init
-draws-init g c = record { drawn = []; items = refl; room = refl; again = c.requires; within = λ xs last h. h; no_turn = λ none. (refl, refl); kept = λ fact h. h }
 
 pub draws-preserved : goal.draws-preserved
 draws-preserved g c =

@@ -3,12 +3,6 @@ use Rattle.futures_buffered.proofs.Common.{FoldsTo-push, length_push}
 use Rattle.futures_buffered.proofs.TurnsLemmas.{GoesOn, leaves_then}
 use Rattle.futures_buffered.proofs.turns.TakeTurns.poll_in_turns.Goals as goal
 
-pub turns-init : goal.turns-init
-turns-init g c = record { done = []; row = refl; count = refl; leaves = record { value = tt; ended = tt; same = λ x h. h; again = c.requires; limit = refl; kept = λ fact h. h } }
-
-pub turn-requires : goal.turn-requires
-turn-requires g c = c.turns.invariant.leaves.again
-
 pub turns-preserved : goal.turns-preserved
 turns-preserved g c =
     let so = c.turns.invariant in
