@@ -5,12 +5,5 @@ pub use Rattle.fbuf_lines.specs.Reply
 pub use Rattle.fbuf_lines.specs.Session
 pub mod Watched
 pub mod Script
-pub use Rattle.fbuf_lines.specs.Lines
-pub use Rattle.fbuf_lines.specs.ReadyAfter
-pub use Rattle.fbuf_lines.specs.Command
-pub use Rattle.fbuf_lines.specs.Reply
-pub use Rattle.fbuf_lines.specs.Session
-pub use Rattle.fbuf_program.specs.Watched
-pub use Rattle.fbuf_program.specs.Script
 pub mod Threads
 pub mod ProgramWords

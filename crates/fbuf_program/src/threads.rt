@@ -147,6 +147,7 @@ impl<R: Wait + Drop> Stream for Numbers<R> {
 
     ghost yields = { λ numbers. GiveNumbers numbers.set.slots };
 
+    #[tactic(auto, using(crate::proofs::ThreadsLemmas::first_given, crate::proofs::ThreadsLemmas::rest_given, crate::proofs::ThreadsLemmas::same_given))]
     fn poll_next(&mut self, cx: &mut Context<'_>) -> Poll<Option<usize>> {
         self.set.poll_next(cx)
     }

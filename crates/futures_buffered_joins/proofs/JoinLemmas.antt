@@ -1,12 +1,12 @@
 -- What one poll of a join says of what it may be ready with.
-use Rattle.std.proofs.Common.{◌≡◌, ℕ, ◌+◌, ◌<◌, Bool, false, List, [], ◌∷◌, ◌++◌, length, map, get_or, set, replicate, Option, Some, None, IfSome, IsSomeAnd, Ok, Err, refl, sym, ap, subst, inl, inr, arith, ◌∙◌, length-set, slice_get}
+use Rattle.std.proofs.Common.{◌≡◌, ℕ, ◌+◌, ◌<◌, Bool, false, List, [], ◌∷◌, ◌++◌, length, map, get_or, set, replicate, Option, Some, None, IsSomeAnd, Ok, Err, refl, sym, ap, subst, inl, inr, arith, ◌∙◌, length-set, slice_get}
 use Rattle.std.specs.List.{FoldsTo}
 use Rattle.std.proofs.lemmas.List.{get_or-set_same, get_or-set_other, get_or_past, get_or-replicate, length-replicate}
 use Rattle.std.proofs.lemmas.Option.{slice_get_within}
 use Rattle.std.proofs.lemmas.Fn.{FoldsTo-push}
 use Rattle.std.proofs.lemmas.Bool.{cases_eq, cases_lt}
 use Rattle.futures.specs.Poll.{IfReady}
-use Rattle.futures.specs.Task.{Holds, Keeps}
+use Rattle.futures.specs.Task.{Keeps}
 use Rattle.futures.specs.declared.task.context.Context.{Context}
 use Rattle.futures.specs.declared.task.Poll.{Poll}
 use Rattle.futures.specs.declared.task.Poll.TheVariants.{Ready, Pending}
@@ -29,15 +29,6 @@ is_new {Q = Q} {A = A} holds items set n (Some places) made held size = (
   },
   ap length made.1 ∙ length-replicate n None,
 )
-
--- how many futures a join waits for, and its outputs where each has come
-abbrev pub waits_in : {Q A : Type 0} → (Q → List Bool) → Option (Places Q A) → ℕ
-waits_in waiting None = 0
-waits_in waiting (Some places) = waiting_count (waiting places.set)
-
-abbrev pub AreGathered : {Q A : Type 0} → Option (Places Q A) → List A → Type 0
-AreGathered None outputs = outputs ≡ []
-AreGathered (Some places) outputs = places.outputs ≡ map Some outputs
 
 module _ {Q O R A E B : Type 0} (waiting : Q → List Bool) (placed : PlacedPollsOf Q O) (rule : JoinRuleOf R O A E B) where
   abbrev MayBe : Places Q A → ℕ → A → Type 0
@@ -136,28 +127,8 @@ module _ {Q O R A E B : Type 0} (waiting : Q → List Bool) (placed : PlacedPoll
     pub held : placed.can_poll now.set
     pub kept : Keeps start cx
 
-  -- the same of a join that may have ended: then nothing was done
-  abbrev pub FillingIf : Option (Places Q A) → Context → Option (Places Q A) → Context → Type 0
-  FillingIf None start None cx = cx ≡ start
-  FillingIf None start (Some now) cx = ⊥
-  FillingIf (Some old) start None cx = ⊥
-  FillingIf (Some old) start (Some now) cx = Filling old start now cx
-
-  pub filling : (old now : Option (Places Q A)) (start : Context) (places : Places Q A) (cx : Context) → FillingIf old start now cx → now ≡ Some places
-      → (was : Places Q A) × (old ≡ Some was) × Filling was start places cx
-  filling old now start places cx so is = started old (subst (λ (s : Option (Places Q A)). FillingIf old start s cx) is so)
-    where
-      started : (o : Option (Places Q A)) → FillingIf o start (Some places) cx → (was : Places Q A) × (o ≡ Some was) × Filling was start places cx
-      started None h = absurd h
-      started (Some was) h = (was, refl, h)
-
   pub begins : (old : Places Q A) (cx : Context) → WaitsOrCame (waiting old.set) old.outputs → placed.can_poll old.set → Filling old cx old cx
   begins old cx in_order held = record { row = []; filled = refl; in_order = in_order; held = held; kept = λ fact h. h }
-
-  pub begins_if : (old : Option (Places Q A)) (cx : Context) → IfSome old (λ (p : Places Q A). WaitsOrCame (waiting p.set) p.outputs)
-      → IfSome old (λ (p : Places Q A). placed.can_poll p.set) → FillingIf old cx old cx
-  begins_if None cx came held = refl
-  begins_if (Some old) cx came held = begins old cx came held
 
   -- an output has come at a place of the join, and one future fewer waits
   pub place_there : (old now : Places Q A) (after : Q) (start cx left : Context) (place : ℕ) (output : O) → Filling old start now cx
@@ -196,15 +167,6 @@ module _ {Q O R A E B : Type 0} (waiting : Q → List Bool) (placed : PlacedPoll
       → PollsJoin waiting placed rule (Some old) (Ready answer) None start cx
   all_filled old now answer outputs start cx so none all shows =
       ready (Some old) answer (Ok outputs) start cx shows (record { row = so.row; before = now; between = cx; filled = so.filled; ended = (none, all, refl, refl) }) so.kept
-
-  -- the same of a join that may have ended before
-  pub all_ended : (old now : Option (Places Q A)) (answer : B) (outputs : List A) (start cx : Context) → FillingIf old start now cx → waits_in waiting now ≡ 0
-      → AreGathered now outputs → rule.seen answer ≡ Ok outputs → PollsJoin waiting placed rule old (Ready answer) None start cx
-  all_ended None None answer outputs start cx same none all shows =
-      ready None answer (Ok outputs) start cx shows (all, refl, same) (λ fact h. subst (λ (left : Context). Holds left fact) (sym same) h)
-  all_ended None (Some now) answer outputs start cx so none all shows = absurd so
-  all_ended (Some old) None answer outputs start cx so none all shows = absurd so
-  all_ended (Some old) (Some now) answer outputs start cx so none all shows = all_filled old now answer outputs start cx so none all shows
 
   -- an output ends the join
   pub one_failed : (old now : Places Q A) (after : Q) (answer : B) (place : ℕ) (output : O) (e : E) (start cx left : Context) → Filling old start now cx

@@ -1,7 +1,7 @@
 -- What a join is made of, what one poll makes of it and of its task, and what it may be ready with. A clause names the
 -- set and the rule by the ghost members of their types: `Q.waiting Q.PlacedPolls R.JoinRule`.
 use Rattle.std.specs.Prelude.{◌≡◌, ℕ, ◌<◌, List, [], Bool, length, map, replicate, slice_set}
-use Rattle.std.specs.Prelude.{Option, Some, None, IfSome, IsSomeAnd, Result, Ok, Err}
+use Rattle.std.specs.Prelude.{Option, Some, None, IfSome, IsSome, IsSomeAnd, Result, Ok, Err}
 use Rattle.std.specs.List.{FoldsTo}
 use Rattle.futures.specs.Poll.{IfReady, OnPending}
 use Rattle.futures.specs.Task.{Covers, Keeps}
@@ -123,6 +123,17 @@ module _
       pub again : OnPending answer (IfSome new (λ places. placed.can_poll places.set))
       -- a pending join waits at exactly those places at which no output has come
       pub places : OnPending answer (IfSome new (λ places. WaitsOrCame (waiting places.set) places.outputs))
+
+    -- What the polls of the set in one poll of a join make of its places, from `old` to `new`. `Ok`: each output has
+    -- come. `Ok` and `Err`: the poll may return any answer that shows all outputs, or the error.
+    abbrev pub FillsUntil : Places Q A → Poll (Result (Unit {0}) E) → Places Q A → Context → Context → Type 0
+    FillsUntil old (Ready (Ok done)) new cx left =
+        ((k : ℕ) → k < length new.outputs → IsSome (output_in new.outputs k))
+        × ((answer : B) (outputs : List A) → new.outputs ≡ map Some outputs → rule.seen answer ≡ Ok outputs
+        → PollsJoin (Some old) (Ready answer) None cx left)
+    FillsUntil old (Ready (Err e)) new cx left = (answer : B) → rule.seen answer ≡ Err e
+        → PollsJoin (Some old) (Ready answer) None cx left
+    FillsUntil old Pending new cx left = PollsJoin (Some old) Pending (Some new) cx left
 
     -- a poll of the join, by some task, was Pending, and led from `old` to `new`
     abbrev pub StaysPending : Places Q A → Places Q A → Places Q A → Type 0

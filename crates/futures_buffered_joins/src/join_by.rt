@@ -1,6 +1,7 @@
 //! A join by a rule, over any set that returns an output with its place.
 ghost use Rattle.std.specs.Prelude.{◌≡◌, None, IfOk, IfSome, IsSomeAnd, replicate, true};
-ghost use Rattle.futures_buffered_joins.specs.Join.{JoinMayGive, PollsJoin};
+ghost use Rattle.futures_buffered_joins.specs.Join.{FillsUntil, JoinMayGive, PollsJoin};
+ghost use Rattle.futures_buffered_joins.specs.Outputs.{WaitsOrCame};
 
 pub use crate::join_rule::{JoinName, JoinRule};
 use crate::outputs::{Outputs, Places};
@@ -55,6 +56,31 @@ impl<R, Q: PlacedSet, A: Drop> JoinBy<R, Q, A> {
     }
 }
 
+impl<Q: PollPlacedSet, A: Drop> Places<Q, A> {
+    // Polls the set again and again, each output filling its place, until that is Pending, no future is left or an
+    // output is an error.
+    fn fill<R: JoinRule<Q::Output, Kept = A>>(
+        &mut self,
+        cx: &mut Context<'_>,
+    ) -> Poll<Result<(), R::Error>>
+        requires waits { WaitsOrCame (Q.waiting self.old.set) self.old.outputs }
+        requires held { Q.can_poll self.old.set }
+        ensures { FillsUntil Q.waiting Q.PlacedPolls R.JoinRule
+            self.old result self.new cx.old cx.new }
+    {
+        'polls: while self.set.waiting_len() != 0 {
+            match self.set.poll_placed(cx) {
+                Poll::Ready((place, output)) => match R::keep(output) {
+                    Ok(kept) => self.outputs.put(place, kept),
+                    Err(error) => return Poll::Ready(Err(error)),
+                },
+                Poll::Pending => return Poll::Pending,
+            }
+        }
+        Poll::Ready(Ok(()))
+    }
+}
+
 impl<R, Q, A> Future for JoinBy<R, Q, A>
 where
     Q: PollPlacedSet,
@@ -81,26 +107,20 @@ where
         ensures { PollsJoin Q.waiting Q.PlacedPolls R.JoinRule
             self.old result self.new cx.old cx.new }
     {
-        'places: while let Some(places) = &mut self.places {
-            if places.set.waiting_len() == 0 {
-                break;
-            }
-            match places.set.poll_placed(cx) {
-                Poll::Ready((place, output)) => match R::keep(output) {
-                    Ok(kept) => places.outputs.put(place, kept),
-                    Err(error) => {
-                        self.places = None;
-                        return Poll::Ready(R::answer(Err(error)));
-                    }
-                },
-                Poll::Pending => return Poll::Pending,
-            }
-        }
-        let outputs = match self.places.take() {
-            Some(places) => places.outputs.gather(),
-            None => Vec::new(self.alloc),
+        let Some(places) = &mut self.places else {
+            return Poll::Ready(R::answer(Ok(Vec::new(self.alloc))));
         };
-        Poll::Ready(R::answer(Ok(outputs)))
+        match places.fill::<R>(cx) {
+            Poll::Pending => Poll::Pending,
+            Poll::Ready(Err(error)) => {
+                self.places = None;
+                Poll::Ready(R::answer(Err(error)))
+            }
+            Poll::Ready(Ok(())) => match self.places.take() {
+                Some(places) => Poll::Ready(R::answer(Ok(places.outputs.gather()))),
+                None => unreachable!(),
+            },
+        }
     }
 }
 
