@@ -198,8 +198,8 @@ impl<St: Stream<Item: Drop>> MergeBounded<St> {
     /// Cancels the stream of this key, so that no item of it is returned any more, and returns whether the stream was
     /// held. If not, changes nothing: the stream has ended, or it was cancelled or cleared before.
     ///
-    /// A poll that returns `None` drops the stream; a pending poll drops it, or wakes the task to poll again. Takes the
-    /// time that `cancel` of a growing set takes, and wakes as that does.
+    /// A poll that returns `None` drops the stream; a pending poll drops it, or wakes the task to poll again. Until then
+    /// the stream occupies a slot. Takes the time that `cancel` of a growing set takes, and wakes as that does.
     #[tactic(auto, using(crate::proofs::InFlightMergeLemmas::none_holds))]
     pub fn cancel(&mut self, key: Key) -> bool
         requires { CanPollStreams St.Stream self.old }
