@@ -177,6 +177,7 @@ where
 }
 
 // Carries out the call.
+#[tactic(auto, using(crate::proofs::ProgramWordsLemmas::threads_end, crate::proofs::ProgramWordsLemmas::done_at_zero))]
 fn do_call<T, R, W>(
     rt: &T,
     words: Args,

@@ -152,6 +152,7 @@ fn append_reply(
     reply.append_to(replies)
 }
 
+#[tactic(auto, using(crate::proofs::ScriptLemmas::write_advances, crate::proofs::ScriptLemmas::write_unfailed))]
 fn write_all<W: Write + Drop>(output: &mut Watched<W>, text: &[u8]) -> Result<(), ScriptFault>
     ensures ok { OnOk result
         (Appends (W.contents output.old.inner) (W.contents output.new.inner) text.now) }

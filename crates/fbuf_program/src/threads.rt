@@ -372,6 +372,7 @@ where
     Ok((in_rising_order(outputs?, first)?, made))
 }
 
+#[tactic(auto, using(crate::proofs::ThreadsLemmas::line_begins, crate::proofs::ThreadsLemmas::line_grows, crate::proofs::ThreadsLemmas::line_ends))]
 fn write_line<W: io::Write>(
     output: &mut W,
     n: usize,

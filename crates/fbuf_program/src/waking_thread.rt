@@ -55,6 +55,7 @@ impl WakingThread {
 }
 
 /// Waits until each thread has ended, and adds up the wakes that they made.
+#[tactic(auto, using(crate::proofs::WakingThreadLemmas::sum_pushed, crate::proofs::WakingThreadLemmas::sum_of_none))]
 pub fn join_each<R: Threads>(rt: &R, threads: Vec<WakingThread>) -> MadeWakes
     ensures { sum threads.items < 2 ^ 64 → result ≡ sum threads.items }
 {

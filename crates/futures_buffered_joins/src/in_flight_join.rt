@@ -53,6 +53,7 @@ impl<F: Future<Output: Drop>> PlacedPolls for FuturesUnorderedBounded<F> {
 }
 
 impl<F: Future<Output: Drop>> PollPlacedSet for FuturesUnorderedBounded<F> {
+    #[tactic(auto, using(crate::proofs::InFlightJoinLemmas::nothing_came))]
     fn poll_placed(&mut self, cx: &mut Context<'_>) -> Poll<(usize, F::Output)> {
         match self.poll_next_keyed(cx) {
             Poll::Pending => Poll::Pending,

@@ -59,6 +59,7 @@ impl<R, Q: PlacedSet, A: Drop> JoinBy<R, Q, A> {
 impl<Q: PollPlacedSet, A: Drop> Places<Q, A> {
     // Polls the set again and again, each output filling its place, until that is Pending, no future is left or an
     // output is an error.
+    #[tactic(auto, using(crate::proofs::JoinLemmas::begins, crate::proofs::JoinLemmas::place_there, crate::proofs::JoinLemmas::fills))]
     fn fill<R: JoinRule<Q::Output, Kept = A>>(
         &mut self,
         cx: &mut Context<'_>,

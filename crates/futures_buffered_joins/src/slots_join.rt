@@ -36,6 +36,7 @@ impl<F: SlotFuture<S::Waker>, S: ReadySource> PlacedPolls for FuturesUnorderedBo
 }
 
 impl<F: SlotFuture<S::Waker>, S: ReadySource> PollPlacedSet for FuturesUnorderedBounded<F, S> {
+    #[tactic(auto, using(crate::proofs::SlotsJoinLemmas::nothing_came))]
     fn poll_placed(&mut self, cx: &mut Context<'_>) -> Poll<(usize, F::Output)> {
         match self.poll_first(&PollFuture, cx) {
             Poll::Ready((slot, output)) => {

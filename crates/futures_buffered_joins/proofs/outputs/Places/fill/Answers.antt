@@ -1,21 +1,7 @@
 use Rattle.std.proofs.Common.{sym, arith, ◌∙◌}
-use Rattle.futures_buffered_joins.proofs.JoinLemmas.{all_filled, begins, fills, one_failed, one_pending, place_there}
+use Rattle.futures_buffered_joins.proofs.JoinLemmas.{all_filled, one_failed, one_pending}
 use Rattle.futures_buffered_joins.proofs.OutputsLemmas.{all_came}
 use Rattle.futures_buffered_joins.proofs.outputs.Places.fill.Goals as goal
-
-pub polls-init : goal.polls-init
-polls-init g c = begins g.Q.PlacedSet.waiting g.Q.PlacedPolls g.R.JoinRule c.args.self.now c.args.cx.now c.requires.waits c.requires.held
-
-pub put-requires : goal.put-requires
-put-requires g c = (place_there g.Q.PlacedSet.waiting g.Q.PlacedPolls g.R.JoinRule _ c.polls.self _ _ _ _ c.in-Ready.place c.in-Ready.output c.polls.invariant c.in-Ready.ensures).0
-
-pub polls-smaller : goal.polls-smaller
-polls-smaller g c =
-    let fewer = (place_there g.Q.PlacedSet.waiting g.Q.PlacedPolls g.R.JoinRule _ c.polls.self _ _ _ _ c.in-Ready.place c.in-Ready.output c.polls.invariant c.in-Ready.ensures).1 in
-    omega arith
-
-pub polls-preserved : goal.polls-preserved
-polls-preserved g c = rw c.put.ensures (fills g.Q.PlacedSet.waiting g.Q.PlacedPolls g.R.JoinRule _ c.polls.self _ _ _ _ c.in-Ready.place c.in-Ready.output c.in-Ok.kept c.polls.invariant c.in-Ready.ensures c.in-Ok.ensures)
 
 pub returns-in-Err : goal.returns-in-Err
 returns-in-Err g c = λ answer shows. one_failed g.Q.PlacedSet.waiting g.Q.PlacedPolls g.R.JoinRule _ c.polls.self _ answer c.in-Ready.place c.in-Ready.output c.in-Err.error _ _ _ c.polls.invariant c.in-Ready.ensures c.in-Err.ensures shows
