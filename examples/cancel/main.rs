@@ -8,7 +8,7 @@ mod words;
 
 use crate::request::{document_in, request_for};
 use crate::words::Words;
-use anyhow::Context;
+use anyhow::bail;
 use bytes::BytesMut;
 use futures::{Future, StreamExt, TryFutureExt};
 use futures_buffered::in_flight::FuturesUnorderedBounded;
@@ -25,18 +25,23 @@ use tokio::runtime::LocalRuntime;
 // How long the requests run before they are cleared.
 const MILLISECONDS: u64 = 200;
 
-fn size_of(answer: BytesMut) -> anyhow::Result<usize> {
-    let document = document_in(answer.as_slice()).context("the server has no such document")?;
+fn size_of(answer: BytesMut) -> Result<usize, anyhow::Error> {
+    let Some(document) = document_in(answer.as_slice()) else {
+        bail!("the server has no such document");
+    };
     Ok(document.len())
 }
 
 // Prints how many requests are held, and how many the server has in hand by the answer to this question.
-fn report<F: Future<Output = io::Result<BytesMut>>>(
-    rt: &(impl Wait + Clock + Net + RandomSource + AllocGlobal + Print),
+fn report<R, F>(
+    rt: &R,
     runtime: &mut LocalRuntime,
     held: usize,
     question: F,
-) -> anyhow::Result<()>
+) -> Result<(), anyhow::Error>
+where
+    R: Wait + Clock + Net + RandomSource + AllocGlobal + Print,
+    F: Future<Output = io::Result<BytesMut>>,
     requires { F.can_poll question }
 {
     let answer = runtime.block_on(rt, question)??;
@@ -45,7 +50,7 @@ fn report<F: Future<Output = io::Result<BytesMut>>>(
     Ok(())
 }
 
-fn main(rt: HostRuntime) -> anyhow::Result<()> {
+fn main(rt: HostRuntime) -> Result<(), anyhow::Error> {
     let alloc = rt.alloc();
     let mut words = Words::new(&rt, "cancel PORT LIMIT")?;
     let (server, limit) = (words.server()?, words.limit()?);
@@ -74,8 +79,9 @@ fn main(rt: HostRuntime) -> anyhow::Result<()> {
         let Some(came) = came else {
             break;
         };
-        let document = keys.iter().position(|key| *key == came.key);
-        let document = document.context("an output of no document")?;
+        let Some(document) = keys.iter().position(|key| *key == came.key) else {
+            bail!("an output of no document");
+        };
         sizes.insert(document, size_of(came.output?)?)?;
         if let Some(late) = late {
             let _tag = set.cancel(late);

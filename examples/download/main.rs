@@ -7,7 +7,7 @@ mod words;
 
 use crate::request::{document_in, request_for};
 use crate::words::Words;
-use anyhow::Context;
+use anyhow::bail;
 use bytes::BytesMut;
 use futures::{StreamExt, TryFutureExt, future, stream};
 use futures_buffered::in_flight::BufferedStreamExt;
@@ -15,7 +15,7 @@ use tokio::io::{read_to_end, write_all};
 use tokio::net::TcpStream;
 use tokio::runtime::LocalRuntime;
 
-fn main(rt: HostRuntime) -> anyhow::Result<()> {
+fn main(rt: HostRuntime) -> Result<(), anyhow::Error> {
     let alloc = rt.alloc();
     let mut words = Words::new(&rt, "download PORT DOCUMENTS LIMIT")?;
     let (server, documents, limit) = (words.server()?, words.number()?, words.limit()?);
@@ -34,8 +34,9 @@ fn main(rt: HostRuntime) -> anyhow::Result<()> {
     let answers = runtime.block_on(&rt, answers.collect(alloc))??;
     for (number, answer) in answers.into_iter().enumerate() {
         let answer = answer?;
-        let document = document_in(answer.as_slice());
-        let document = document.context(format_args!("the server has no document {number}"))?;
+        let Some(document) = document_in(answer.as_slice()) else {
+            bail!("the server has no document {number}");
+        };
         println!(&rt; "document {number}: {} bytes", document.len())?;
     }
     Ok(())

@@ -8,8 +8,9 @@ mod words;
 use crate::words::Words;
 use futures::channel::mpsc::{Sender, channel};
 use futures::executor::block_on;
-use futures::{SinkExt, StreamExt, future};
+use futures::{StreamExt, future, stream};
 use futures_buffered::in_flight::IterExt;
+use std::alloc::Global;
 use std::io::Print;
 use std::random::RandomSource;
 use std::rt::Files;
@@ -35,8 +36,8 @@ struct Source {
 }
 
 // The files of the folder, in the order of their names. Nothing came of them yet.
-fn sources_in(
-    rt: &(impl Files + AllocGlobal + Clone + Drop),
+fn sources_in<R: Files + AllocGlobal + Clone + Drop>(
+    rt: &R,
     folder: &str,
 ) -> io::Result<Vec<Source>> {
     let mut sources = Vec::new(rt.alloc());
@@ -53,18 +54,28 @@ fn sources_in(
     Ok(sources)
 }
 
+fn lines_of(alloc: Global, source: usize, text: &str) -> io::Result<Vec<Line>> {
+    let mut lines = Vec::new(alloc);
+    for line in text.lines() {
+        let text = String::from_str(alloc, line)?;
+        lines.push(Line { source, text })?;
+    }
+    Ok(lines)
+}
+
 // Sends the lines of a file in their order. It waits while the channel is full.
-fn send_lines(
-    rt: &(impl Files + Wait + RandomSource + AllocGlobal),
+fn send_lines<R>(
+    rt: &R,
     source: usize,
     path: &str,
-    mut sender: Sender<Line>,
-) -> anyhow::Result<()> {
+    sender: Sender<Line>,
+) -> Result<(), anyhow::Error>
+where
+    R: Files + Wait + RandomSource + AllocGlobal,
+{
     let text = fs::read_to_string(rt, path)?;
-    for line in text.lines() {
-        let text = String::from_str(rt.alloc(), line)?;
-        sender = block_on(rt, sender.send(Line { source, text }))??;
-    }
+    let lines = lines_of(rt.alloc(), source, text.as_str())?;
+    block_on(rt, stream::iter(lines).map(Ok).forward(sender))??;
     Ok(())
 }
 
@@ -79,7 +90,7 @@ fn print_counts<R: Print>(rt: &R, sources: &[Source]) -> io::Result<()> {
     println!(rt; "{total} lines")
 }
 
-fn main(rt: HostRuntime) -> anyhow::Result<()> {
+fn main(rt: HostRuntime) -> Result<(), anyhow::Error> {
     let folder = Words::new(&rt, "feed FOLDER")?.text()?;
     let mut sources = sources_in(&rt, folder.as_str())?;
     let (mut streams, mut threads) = (Vec::new(rt.alloc()), Vec::new(rt.alloc()));

@@ -58,7 +58,7 @@ impl<C, I> Download<C, I> {
 }
 
 // The whole body, where it came whole.
-fn whole(body: hyper::Result<Collected>) -> anyhow::Result<Bytes> {
+fn whole(body: hyper::Result<Collected>) -> Result<Bytes, anyhow::Error> {
     Ok(body?.to_bytes()?)
 }
 
@@ -85,7 +85,7 @@ fn enter<C: Drop, I: Drop>(stage: &mut Stage<C, I>, next: Stage<C, I>)
 
 impl<C: Future<Output = io::Result<I>>, I: AsyncRead + AsyncWrite> Download<C, I> {
     // Connects and asks, unless that is done.
-    fn begin(&mut self, cx: &mut Context<'_>) -> Poll<anyhow::Result<()>>
+    fn begin(&mut self, cx: &mut Context<'_>) -> Poll<Result<(), anyhow::Error>>
         requires stage { StageCanBePolled C.can_poll self.old.stage }
         requires runs { IfSome self.old.connection (CanRun I.reads I.writes) }
         ensures stage { StageCanBePolled C.can_poll self.new.stage }
@@ -131,7 +131,7 @@ impl<C: Future<Output = io::Result<I>>, I: AsyncRead + AsyncWrite> Download<C, I
     }
 
     // Waits for the answer, and then for its body.
-    fn receive(&mut self, cx: &mut Context<'_>) -> Poll<anyhow::Result<Bytes>>
+    fn receive(&mut self, cx: &mut Context<'_>) -> Poll<Result<Bytes, anyhow::Error>>
         requires { StageCanBePolled C.can_poll self.old.stage }
         ensures stage { OnPending result (StageCanBePolled C.can_poll self.new.stage) }
         ensures connection { self.new.connection ≡ self.old.connection }
@@ -165,12 +165,12 @@ where
 {
     ghost use Rattle.hyper_download.specs.Download.{CanRun, StageCanBePolled};
 
-    type Output = anyhow::Result<Bytes>;
+    type Output = Result<Bytes, anyhow::Error>;
 
     ghost can_poll = { λ download. StageCanBePolled C.can_poll download.stage
         × IfSome download.connection (CanRun I.reads I.writes) };
 
-    fn poll(&mut self, cx: &mut Context<'_>) -> Poll<anyhow::Result<Bytes>> {
+    fn poll(&mut self, cx: &mut Context<'_>) -> Poll<Result<Bytes, anyhow::Error>> {
         if let Err(error) = ready!(self.begin(cx)) {
             return Poll::Ready(Err(error));
         }

@@ -17,13 +17,13 @@ use std::hash::RandomState;
 use tokio::net::TcpStream;
 use tokio::runtime::LocalRuntime;
 
-fn request_for(alloc: Global, document: u32) -> anyhow::Result<Asked> {
+fn request_for(alloc: Global, document: u32) -> Result<Asked, anyhow::Error> {
     let path = format!(in alloc; "/{document}")?;
     let request = Request::get(alloc, path.as_str()).header(header::HOST, "localhost");
     Ok(request.body(Empty::new())?)
 }
 
-fn requests(alloc: Global, documents: u32) -> anyhow::Result<Vec<Asked>> {
+fn requests(alloc: Global, documents: u32) -> Result<Vec<Asked>, anyhow::Error> {
     let mut requests = Vec::new(alloc);
     for document in 0..documents {
         requests.push(request_for(alloc, document)?)?;
@@ -31,7 +31,7 @@ fn requests(alloc: Global, documents: u32) -> anyhow::Result<Vec<Asked>> {
     Ok(requests)
 }
 
-fn main(rt: HostRuntime) -> anyhow::Result<()> {
+fn main(rt: HostRuntime) -> Result<(), anyhow::Error> {
     let alloc = rt.alloc();
     let mut words = Words::new(&rt, "hyper_download PORT DOCUMENTS LIMIT")?;
     let (server, documents, limit) = (words.server()?, words.number()?, words.limit()?);

@@ -64,7 +64,7 @@ fn countings_of<R: Threads + Copy + Drop>(
 }
 
 // How many lines the files of the list have. One that cannot be read has none.
-fn lines_in<R>(rt: R, files: HostRuntime, list: &str, n: usize) -> anyhow::Result<usize>
+fn lines_in<R>(rt: R, files: HostRuntime, list: &str, n: usize) -> Result<usize, anyhow::Error>
 where
     R: Threads + Wait + RandomSource + AllocGlobal + Copy + Drop,
     requires { 0 < n }
@@ -80,7 +80,7 @@ where
     Ok(lines)
 }
 
-fn main(rt: HostRuntime) -> anyhow::Result<()> {
+fn main(rt: HostRuntime) -> Result<(), anyhow::Error> {
     let mut words = Words::new(&rt, "jobs LIST N")?;
     let list = fs::read_to_string(&rt, words.text()?.as_str())?;
     let n = words.limit()?;

@@ -8,7 +8,7 @@ mod words;
 
 use crate::request::{document_in, request_for};
 use crate::words::Words;
-use anyhow::Context;
+use anyhow::bail;
 use bytes::BytesMut;
 use futures::{FutureExt, StreamExt, TryFutureExt};
 use futures_buffered::in_flight::FuturesUnorderedBounded;
@@ -33,7 +33,7 @@ fn is_good(answer: &Answer) -> bool {
     }
 }
 
-fn main(rt: HostRuntime) -> anyhow::Result<()> {
+fn main(rt: HostRuntime) -> Result<(), anyhow::Error> {
     let alloc = rt.alloc();
     let mut words = Words::new(&rt, "retry PORT SITE PAGES LIMIT MILLISECONDS")?;
     let (server, site, pages) = (words.server()?, words.text()?, words.number()?);
@@ -54,9 +54,9 @@ fn main(rt: HostRuntime) -> anyhow::Result<()> {
         let timed = timers.timeout(&rt, limit, exchange)?;
         Ok::<_, anyhow::Error>(timed.map(move |came| (page, tries, came)))
     };
-    let end = Instant::now(&rt)?
-        .checked_add(time)
-        .context("too many milliseconds")?;
+    let Some(end) = Instant::now(&rt)?.checked_add(time) else {
+        bail!("too many milliseconds");
+    };
     let mut set = FuturesUnorderedBounded::new(alloc, limit)?;
     let mut waiting = (0..pages).map(|page| (page, 0)).collect::<Vec<_>>(alloc)?;
     let mut in_flight = BTreeSet::new(alloc);

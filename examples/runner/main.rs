@@ -24,7 +24,7 @@ const PAGES: u32 = 30;
 fn size_of(
     page: u32,
     came: Result<io::Result<BytesMut>, Elapsed>,
-) -> anyhow::Result<(u32, Option<usize>)> {
+) -> Result<(u32, Option<usize>), anyhow::Error> {
     let Ok(answer) = came else {
         return Ok((page, None));
     };
@@ -32,7 +32,7 @@ fn size_of(
     Ok((page, Some(size.unwrap_or(0))))
 }
 
-fn main(rt: HostRuntime) -> anyhow::Result<()> {
+fn main(rt: HostRuntime) -> Result<(), anyhow::Error> {
     let alloc = rt.alloc();
     let mut words = Words::new(&rt, "runner PORT LIMIT MILLISECONDS")?;
     let (server, limit, time) = (words.server()?, words.limit()?, words.milliseconds()?);

@@ -1,7 +1,7 @@
 //! What a program's words ask for.
 ghost use Rattle.std.specs.Prelude.{◌<◌, IfOk};
 
-use anyhow::{Context, ensure};
+use anyhow::bail;
 use std::env::{self, Args, Env};
 use std::net::{Ipv4Addr, SocketAddr};
 use std::time::Duration;
@@ -14,38 +14,41 @@ pub struct Words {
 }
 
 impl Words {
-    pub fn new<R: Env + AllocGlobal>(rt: &R, usage: &'static str) -> anyhow::Result<Words> {
+    pub fn new<R: Env + AllocGlobal>(rt: &R, usage: &'static str) -> Result<Words, anyhow::Error> {
         let mut words = env::args(rt)?;
         let _program = words.next();
         Ok(Words { words, usage })
     }
 
-    pub fn text(&mut self) -> anyhow::Result<String> {
-        self.words
-            .next()
-            .context(format_args!("usage: {}", self.usage))
+    pub fn text(&mut self) -> Result<String, anyhow::Error> {
+        let Some(word) = self.words.next() else {
+            bail!("usage: {}", self.usage);
+        };
+        Ok(word)
     }
 
-    pub fn number(&mut self) -> anyhow::Result<u32> {
+    pub fn number(&mut self) -> Result<u32, anyhow::Error> {
         Ok(self.text()?.parse()?)
     }
 
     /// How many are under way at a time: at least one.
-    pub fn limit(&mut self) -> anyhow::Result<usize>
+    pub fn limit(&mut self) -> Result<usize, anyhow::Error>
         ensures { IfOk result (λ limit. 0 < limit) }
     {
         let limit = self.text()?.parse()?;
-        ensure!(limit > 0, "a limit is 1 at least");
+        if limit == 0 {
+            bail!("a limit is 1 at least");
+        }
         Ok(limit)
     }
 
     /// The server on this machine that has this port.
-    pub fn server(&mut self) -> anyhow::Result<SocketAddr> {
+    pub fn server(&mut self) -> Result<SocketAddr, anyhow::Error> {
         let port = self.text()?.parse()?;
         Ok(SocketAddr::from((Ipv4Addr::LOCALHOST, port)))
     }
 
-    pub fn milliseconds(&mut self) -> anyhow::Result<Duration> {
+    pub fn milliseconds(&mut self) -> Result<Duration, anyhow::Error> {
         Ok(Duration::from_millis(self.text()?.parse()?))
     }
 }

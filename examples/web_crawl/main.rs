@@ -13,7 +13,7 @@ use crate::download::Download;
 use crate::request::{document_in, request_for};
 use crate::visit::Visit;
 use crate::words::Words;
-use anyhow::Context;
+use anyhow::bail;
 use futures::StreamExt;
 use futures_buffered::in_flight::{FuturesUnorderedBounded, Kept};
 use std::alloc::{AllocError, Global};
@@ -68,8 +68,8 @@ impl Pages {
     }
 }
 
-fn download_of(
-    rt: &(impl Net + AllocGlobal),
+fn download_of<R: Net + AllocGlobal>(
+    rt: &R,
     runtime: &LocalRuntime,
     server: SocketAddr,
     name: &str,
@@ -79,14 +79,17 @@ fn download_of(
     Ok(Download::new(rt.alloc(), connect, request))
 }
 
-fn crawl(
-    rt: &(impl Wait + Clock + Net + RandomSource + AllocGlobal),
+fn crawl<R>(
+    rt: &R,
     runtime: &mut LocalRuntime,
     pages: &mut Pages,
     server: SocketAddr,
     limit: usize,
     deadline: Duration,
-) -> anyhow::Result<()> {
+) -> Result<(), anyhow::Error>
+where
+    R: Wait + Clock + Net + RandomSource + AllocGlobal,
+{
     let set = FuturesUnorderedBounded::new(rt.alloc(), limit)?;
     let mut visits: Visits = Kept::new(set);
     for _ in rt.forever() {
@@ -101,15 +104,19 @@ fn crawl(
         let Some((name, answer)) = runtime.block_on(rt, visits.next())? else {
             break;
         };
-        let answer = answer.context(format_args!("{name} did not come in time"))??;
-        let page = document_in(answer.as_slice());
-        let page = page.context(format_args!("{name} is not to be had"))?;
+        let Ok(answer) = answer else {
+            bail!("{name} did not come in time");
+        };
+        let answer = answer?;
+        let Some(page) = document_in(answer.as_slice()) else {
+            bail!("{name} is not to be had");
+        };
         pages.find_links(str::from_utf8(page)?)?;
     }
     Ok(())
 }
 
-fn main(rt: HostRuntime) -> anyhow::Result<()> {
+fn main(rt: HostRuntime) -> Result<(), anyhow::Error> {
     let mut words = Words::new(&rt, "web_crawl PORT START LIMIT MILLISECONDS")?;
     let (server, start) = (words.server()?, words.text()?);
     let (limit, deadline) = (words.limit()?, words.milliseconds()?);

@@ -1,14 +1,15 @@
 //! Scripts that are answered over readers and writers that take a few bytes at a time, or that fail.
 use crate::fakes::{Limits, ROOMY, Sink, Source};
+use crate::same::assert_same;
 use fbuf_program::script::{ScriptFault, script};
 use fbuf_program::watched::Watched;
 use futures::test::MockTask;
 use std::alloc::{AllocGlobal, Global};
 use std::io;
 use std::io::Write;
+use std::process::Abort;
 use std::random::RandomSource;
 use std::test::Fail;
-use test_support::same::same;
 
 // A script and its replies.
 type Lines<'a> = (&'a [u8], &'a [u8]);
@@ -22,7 +23,7 @@ type Ended = (Result<(), ScriptFault>, (bool, bool), usize, usize);
 
 // What was written is a beginning of the replies.
 fn ends(
-    rt: &(impl RandomSource + AllocGlobal),
+    rt: &(impl Abort + RandomSource + AllocGlobal),
     (text, replies): Lines<'_>,
     reads: Limits,
     writes: Limits,
@@ -33,9 +34,7 @@ fn ends(
     let answer = task.enter(|cx| script(rt.alloc(), cx, &mut input, &mut output));
     let failed = (input.failed(), output.failed());
     let Sink { bytes, limits, .. } = output.into_inner();
-    if !replies.starts_with(bytes.as_slice()) {
-        return Err("what was written is no beginning of the replies".into());
-    }
+    assert!(rt; replies.starts_with(bytes.as_slice()));
     Ok((
         answer,
         failed,
@@ -48,35 +47,38 @@ fn ends(
 fn reads_and_writes_a_byte_at_a_time(rt: HostRuntime) -> Result<(), Fail> {
     let ended = ends(&rt, (TEXT, REPLIES), (1, usize::MAX), (1, usize::MAX))?;
     let length = REPLIES.len();
-    same(ended, (Ok(()), (false, false), length, length))
+    assert_same(&rt, ended, (Ok(()), (false, false), length, length));
+    Ok(())
 }
 
 #[test]
 fn writes_nothing_where_a_read_fails(rt: HostRuntime) -> Result<(), Fail> {
     for reads in 0..=TEXT.len() {
         let ended = ends(&rt, (TEXT, REPLIES), (1, reads), ROOMY)?;
-        same(ended, (Err(ScriptFault::Read), (true, false), 0, 0))?;
+        assert_same(&rt, ended, (Err(ScriptFault::Read), (true, false), 0, 0));
     }
     Ok(())
 }
 
 // The write behind so many writes of a byte fails.
-fn writes_a_beginning(
-    rt: &(impl RandomSource + AllocGlobal),
+fn assert_beginning(
+    rt: &(impl Abort + RandomSource + AllocGlobal),
     lines: Lines<'_>,
     writes: usize,
 ) -> Result<(), Fail> {
     let ended = ends(rt, lines, ROOMY, (1, writes))?;
-    same(
+    assert_same(
+        rt,
         ended,
         (Err(ScriptFault::Write), (false, true), writes, writes),
-    )
+    );
+    Ok(())
 }
 
 #[test]
 fn writes_a_beginning_where_a_write_fails(rt: HostRuntime) -> Result<(), Fail> {
     for writes in 0..REPLIES.len() {
-        writes_a_beginning(&rt, (TEXT, REPLIES), writes)?;
+        assert_beginning(&rt, (TEXT, REPLIES), writes)?;
     }
     Ok(())
 }
@@ -84,7 +86,8 @@ fn writes_a_beginning_where_a_write_fails(rt: HostRuntime) -> Result<(), Fail> {
 #[test]
 fn a_write_that_takes_nothing_fails(rt: HostRuntime) -> Result<(), Fail> {
     let ended = ends(&rt, (TEXT, REPLIES), ROOMY, (0, usize::MAX))?;
-    same(ended, (Err(ScriptFault::Write), (false, true), 0, 1))
+    assert_same(&rt, ended, (Err(ScriptFault::Write), (false, true), 0, 1));
+    Ok(())
 }
 
 // It is one line that does not stand, and those around it are answered as ever.
@@ -101,7 +104,8 @@ fn a_line_of_a_million_bytes_is_one_bad(rt: HostRuntime) -> Result<(), Fail> {
         ROOMY,
         ROOMY,
     )?;
-    same(ended, (Ok(()), (false, false), 9, 1))
+    assert_same(&rt, ended, (Ok(()), (false, false), 9, 1));
+    Ok(())
 }
 
 // Replies are written as soon as they have so many bytes.
@@ -151,7 +155,18 @@ fn new_long(alloc: Global) -> io::Result<Long> {
 fn writes_long_replies_in_parts(rt: HostRuntime) -> Result<(), Fail> {
     let long = new_long(rt.alloc())?;
     let ended = ends(&rt, long.lines(), ROOMY, ROOMY)?;
-    same(ended, (Ok(()), (false, false), long.replies.len(), 4))
+    assert_same(&rt, ended, (Ok(()), (false, false), long.replies.len(), 4));
+    Ok(())
+}
+
+fn assert_beginnings(
+    rt: &(impl Abort + RandomSource + AllocGlobal),
+    lines: Lines<'_>,
+) -> Result<(), Fail> {
+    for writes in [1, PART - 1, PART, PART + LONGEST, 12_345, 20_000] {
+        assert_beginning(rt, lines, writes)?;
+    }
+    Ok(())
 }
 
 // A write in the midst fails, before, at and after the end of a part: every byte taken until then is one of the
@@ -159,36 +174,35 @@ fn writes_long_replies_in_parts(rt: HostRuntime) -> Result<(), Fail> {
 #[test]
 fn writes_a_beginning_of_long_replies(rt: HostRuntime) -> Result<(), Fail> {
     let long = new_long(rt.alloc())?;
-    for writes in [1, PART - 1, PART, PART + LONGEST, 12_345, 20_000] {
-        writes_a_beginning(&rt, long.lines(), writes)?;
-    }
-    Ok(())
+    assert_beginnings(&rt, long.lines())
 }
 
 // So many writes take whatever they are given, and the next fails: whole lines were written, and of the last part no
 // line more than it needs.
-fn writes_parts(
-    rt: &(impl RandomSource + AllocGlobal),
+fn assert_parts(
+    rt: &(impl Abort + RandomSource + AllocGlobal),
     lines: Lines<'_>,
     writes: usize,
 ) -> Result<(), Fail> {
     let (answer, failed, bytes, made) = ends(rt, lines, ROOMY, (usize::MAX, writes))?;
-    same(
+    assert_same(
+        rt,
         (answer, failed, made),
         (Err(ScriptFault::Write), (false, true), writes),
-    )?;
+    );
     let least = writes.saturating_mul(PART);
-    let most = least.saturating_add(writes.saturating_mul(LONGEST));
-    same(least <= bytes && bytes < most, true)?;
+    assert!(rt; bytes >= least);
+    assert!(rt; bytes < least.saturating_add(writes.saturating_mul(LONGEST)));
     let last = lines.1.get(bytes.saturating_sub(1));
-    same(last.copied(), Some(b'\n'))
+    assert_same(rt, last.copied(), Some(b'\n'));
+    Ok(())
 }
 
 #[test]
 fn writes_a_part_once_it_is_long_enough(rt: HostRuntime) -> Result<(), Fail> {
     let long = new_long(rt.alloc())?;
-    writes_parts(&rt, long.lines(), 1)?;
-    writes_parts(&rt, long.lines(), 3)
+    assert_parts(&rt, long.lines(), 1)?;
+    assert_parts(&rt, long.lines(), 3)
 }
 
 // The input is read to its end before a line is answered, so what fails after many lines leaves nothing written.
@@ -196,7 +210,8 @@ fn writes_a_part_once_it_is_long_enough(rt: HostRuntime) -> Result<(), Fail> {
 fn writes_nothing_where_a_read_fails_after_many_lines(rt: HostRuntime) -> Result<(), Fail> {
     let long = new_long(rt.alloc())?;
     let wanted = (Err(ScriptFault::Read), (true, false), 0, 0);
-    same(ends(&rt, long.lines(), (1_000, 1), ROOMY)?, wanted)?;
-    same(ends(&rt, long.lines(), (1_000, 9), ROOMY)?, wanted)?;
-    same(ends(&rt, long.lines(), (1_000, 30), ROOMY)?, wanted)
+    assert_same(&rt, ends(&rt, long.lines(), (1_000, 1), ROOMY)?, wanted);
+    assert_same(&rt, ends(&rt, long.lines(), (1_000, 9), ROOMY)?, wanted);
+    assert_same(&rt, ends(&rt, long.lines(), (1_000, 30), ROOMY)?, wanted);
+    Ok(())
 }

@@ -2,6 +2,7 @@
 ghost use Rattle.std.specs.Prelude.{◌≡◌, ◌<◌};
 
 use crate::fakes::{ROOMY, Sink, Source};
+use crate::same::assert_same;
 use fbuf_program::counting_waker::{CountingWaker, MadeWakes, WakeCount};
 use fbuf_program::program_words::run_words;
 use fbuf_program::threads::{Gate, MAX_WAKES, OpenGate, ThreadsFault, threads_run};
@@ -14,7 +15,6 @@ use std::sync::atomic::AtomicU64;
 use std::sync::atomic::Ordering::SeqCst;
 use std::test::Fail;
 use std::thread::yield_now;
-use test_support::same::same;
 
 const TURNS: u64 = 1000000000;
 
@@ -64,11 +64,11 @@ fn two_wakers_at_once(rt: HostRuntime) -> Result<(), Fail> {
     };
     let mut output = Vec::new(rt.alloc());
     let ended = threads_run(rt, rt.alloc(), 2, 2, gate, &mut output);
+    assert_same(&rt, ended, Ok(()));
+    assert_same(&rt, passages.load(SeqCst), EACH_ONCE);
     let line = b"threads 2 wakes 4 outputs 0 1\n";
-    same(
-        (ended, passages.load(SeqCst), output.as_slice()),
-        (Ok(()), EACH_ONCE, line.as_slice()),
-    )
+    assert_same(&rt, output.as_slice(), line.as_slice());
+    Ok(())
 }
 
 // Futures that are to count no wake are done before they leave a waker.
@@ -76,10 +76,9 @@ fn two_wakers_at_once(rt: HostRuntime) -> Result<(), Fail> {
 fn a_run_of_no_wakes_fails(rt: HostRuntime) -> Result<(), Fail> {
     let mut output = Vec::new(rt.alloc());
     let ended = threads_run(rt, rt.alloc(), 2, 0, OpenGate, &mut output);
-    same(
-        (ended, output.is_empty()),
-        (Err(ThreadsFault::Memory), true),
-    )
+    assert_same(&rt, ended, Err(ThreadsFault::Memory));
+    assert!(rt; output.is_empty());
+    Ok(())
 }
 
 // Notes how many wakes came, and how many of them were counted when they came.
@@ -131,11 +130,10 @@ fn each_wake_is_counted_and_then_made(rt: HostRuntime) -> Result<(), Fail> {
         were_counted: &were_counted,
     };
     let made = wake_often(CountingWaker::new(noting, &count));
-    let all = MAX_WAKES as u64;
-    same(
-        (made.count(), came.load(SeqCst), were_counted.load(SeqCst)),
-        (all, all, all),
-    )
+    assert_same(&rt, made.count(), MAX_WAKES as u64);
+    assert_same(&rt, came.load(SeqCst), MAX_WAKES as u64);
+    assert_same(&rt, were_counted.load(SeqCst), MAX_WAKES as u64);
+    Ok(())
 }
 
 // A word that finds no room is dropped here, so that a caller's `?` has none to drop.
@@ -159,5 +157,6 @@ fn a_run_of_threads_flushes_its_line(rt: HostRuntime) -> Result<(), Fail> {
     let mut output = Watched::new(Sink::new(rt.alloc(), ROOMY));
     let mut errors = Vec::new(rt.alloc());
     let status = run_words(&rt, Ok(words), &mut input, &mut output, &mut errors);
-    same((status, output.into_inner().flushes), (0, 1))
+    assert_same(&rt, (status, output.into_inner().flushes), (0, 1));
+    Ok(())
 }

@@ -6,6 +6,7 @@
 //! - `oneshot_threads`: one-shots that are sent from threads.
 //! - `spsc`, `spsc_threads`: channels from one sender, also if that is on a thread.
 //! - `slots`: the slots at which scripts poll a receiver. `rounds`: rounds in which a thread and its test act at once.
+//!   `same`: an assertion as a call.
 #![tactic(auto)]
 
 #[cfg(test)]
@@ -14,6 +15,8 @@ mod oneshot_threads;
 mod oneshots;
 #[cfg(test)]
 mod rounds;
+#[cfg(test)]
+mod same;
 #[cfg(test)]
 mod slots;
 #[cfg(test)]

@@ -1,6 +1,7 @@
 //! One-shots that are sent from threads: in a set that is polled meanwhile, and in one round after another, in which a
 //! send and a poll meet at a new one-shot. And a sender looks for its receiver while that is polled.
 use crate::rounds::{Acts, Meets, Receives, Rounds, comes, lost, polled};
+use crate::same::assert_same;
 use futures::StreamExt;
 use futures::executor::block_on;
 use futures::task::Poll;
@@ -12,7 +13,6 @@ use std::test::Fail;
 use std::thread::{self, JoinHandle, Threads};
 use test_support::keep::keep;
 use test_support::pairs::{add_pairs, pairs};
-use test_support::same::same;
 
 const ROUNDS: u64 = 50_000;
 
@@ -48,7 +48,8 @@ fn no_wake_of_fifty_thousand_is_lost(rt: HostRuntime) -> Result<(), Fail> {
     let source = SharedReady::new(rt.alloc(), 1)?;
     let (senders, receivers) = pairs(rt.alloc(), ROUNDS, || channel(rt.alloc()).ok())?;
     let lost = lost(&rt, ROUNDS, senders, &mut (source, receivers))?;
-    same(lost, 0)
+    assert_same(&rt, lost, 0);
+    Ok(())
 }
 
 // How often the sender looks in a round, and how many rounds there are.
@@ -88,7 +89,8 @@ fn a_receiver_that_is_polled_is_not_gone(rt: HostRuntime) -> Result<(), Fail> {
     let source = SharedReady::new(rt.alloc(), 1)?;
     let (sender, receiver) = channel(rt.alloc())?;
     let lost = lost(&rt, LOOKING_ROUNDS, sender, &mut (source, receiver))?;
-    same(lost, 0)
+    assert_same(&rt, lost, 0);
+    Ok(())
 }
 
 // The sender at each place sends its place.
@@ -137,5 +139,6 @@ fn two_thousand_while_they_are_polled(rt: HostRuntime) -> Result<(), Fail> {
     let sum = all
         .iter()
         .fold(0u64, |sum, one| sum.saturating_add(one.unwrap_or(1_000)));
-    same((all.len(), sum), (2_000, 499_000))
+    assert_same(&rt, (all.len(), sum), (2_000, 499_000));
+    Ok(())
 }

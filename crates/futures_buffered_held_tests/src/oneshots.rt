@@ -2,6 +2,7 @@
 //! answers stands in `one_shots.calls`.
 ghost use Rattle.std.specs.Prelude.{◌≡◌, IfOk, IfSome};
 
+use crate::same::assert_same;
 use crate::slots::{NO_POLL, Slots};
 use futures::task::Poll;
 use futures::test::MockTask;
@@ -14,7 +15,6 @@ use std::test::Fail;
 use test_support::counted_source::SourceLog;
 use test_support::held::Held;
 use test_support::numbered::Numbered;
-use test_support::same::same;
 use test_support::stage::plays_alone;
 
 // The two ends, what a refused sending gave back, a receipt, and the slots of the receiver.
@@ -141,7 +141,8 @@ fn passes(alloc: Global, waker: &SharedWaker, value: u64) -> Result<Option<u64>,
 fn a_receipt_shows_what_came(rt: HostRuntime) -> Result<(), Fail> {
     let source: SharedReady = SharedReady::new(rt.alloc(), 1)?;
     let waker = source.try_waker(0)?;
-    same(passes(rt.alloc(), &waker, 7)?, Some(7))
+    assert_same(&rt, passes(rt.alloc(), &waker, 7)?, Some(7));
+    Ok(())
 }
 
 #[test]
@@ -158,5 +159,6 @@ fn a_receipt_that_is_compared_before_the_answer(rt: HostRuntime) -> Result<(), F
 fn the_word_that_the_sender_left(rt: HostRuntime) -> Result<(), Fail> {
     let text = format!(in rt.alloc(); "{Canceled}")?;
     let wanted = "the sender of a one-shot left before it sent a value";
-    same(text.as_str(), wanted)
+    assert_same(&rt, text.as_str(), wanted);
+    Ok(())
 }

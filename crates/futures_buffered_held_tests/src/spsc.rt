@@ -1,5 +1,6 @@
 //! A channel from one sender: what comes and in which order, whom a sending wakes, what is refused, and what is
 //! dropped.
+use crate::same::assert_same;
 use crate::slots::{NO_POLL, Slots};
 use futures::task::Poll;
 use futures::test::MockTask;
@@ -14,7 +15,6 @@ use test_support::held::Held;
 use test_support::numbered::Numbered;
 use test_support::pairs::pairs;
 use test_support::polling::poll_next;
-use test_support::same::same;
 use test_support::stage::plays_alone;
 
 // The two ends, and the slots of the receiver.
@@ -220,7 +220,7 @@ fn three_receivers_in_a_merge(rt: HostRuntime) -> Result<(), Fail> {
 
 // Memory for the largest capacity is never there, nor for one whose bytes are all that addresses reach.
 #[test]
-fn refused_memory(rt: HostRuntime) -> Result<(), Fail> {
+fn refused_memory(rt: HostRuntime) {
     let refused = [
         (MAX_CAPACITY + 1, NewFault::TooLarge),
         (MAX_CAPACITY, NewFault::Memory),
@@ -228,7 +228,6 @@ fn refused_memory(rt: HostRuntime) -> Result<(), Fail> {
     ];
     for (capacity, fault) in refused {
         let made = channel::<u64>(rt.alloc(), capacity);
-        same(made.err(), Some(fault))?;
+        assert_same(&rt, made.err(), Some(fault));
     }
-    Ok(())
 }

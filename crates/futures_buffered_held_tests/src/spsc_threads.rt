@@ -2,6 +2,7 @@
 //! channel, and a sending meets a receiver that moves to another slot. Many values that go through a merge stand in the
 //! guide.
 use crate::rounds::{Acts, Meets, Receives, Rounds, comes, lost, polled, takes, turn_over};
+use crate::same::assert_same;
 use futures::task::Poll;
 use futures_buffered_core::ready_shared::{SharedReady, SharedWaker};
 use futures_buffered_held::spsc::{Receiver, Sender, TryRecvError, channel};
@@ -9,7 +10,6 @@ use futures_buffered_unordered::SlotStream;
 use std::test::Fail;
 use test_support::keep::keep;
 use test_support::pairs::pairs;
-use test_support::same::same;
 
 const ROUNDS: u64 = 45_000;
 
@@ -96,7 +96,8 @@ fn nothing_of_forty_five_thousand_rounds_is_lost(rt: HostRuntime) -> Result<(), 
         Senders { next, stay },
         &mut (source, receivers),
     )?;
-    same(lost, 0)
+    assert_same(&rt, lost, 0);
+    Ok(())
 }
 
 // Sends the number of each round.
@@ -131,5 +132,6 @@ fn no_wake_of_a_slot_moved_to_is_lost(rt: HostRuntime) -> Result<(), Fail> {
     let source = SharedReady::new(rt.alloc(), 2)?;
     let (sender, receiver) = channel(rt.alloc(), 2)?;
     let lost = lost(&rt, ROUNDS, sender, &mut (source, receiver))?;
-    same(lost, 0)
+    assert_same(&rt, lost, 0);
+    Ok(())
 }

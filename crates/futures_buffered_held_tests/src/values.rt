@@ -1,4 +1,5 @@
 //! Values, closures, one of two, and the items of an iterator. `one_of_two_is_polled` has a value in a set too.
+use crate::same::assert_same;
 use futures::Stream;
 use futures::task::Poll;
 use futures::test::MockTask;
@@ -14,15 +15,15 @@ use std::random::RandomSource;
 use std::test::Fail;
 use test_support::ends::collected;
 use test_support::polling::poll_next;
-use test_support::same::same;
 
 #[test]
 fn a_value_is_given_once(rt: HostRuntime) -> Result<(), Fail> {
     let source: SharedReady = SharedReady::new(rt.alloc(), 1)?;
     let waker = source.try_waker(0)?;
     let mut value = ready(5);
-    let first = value.poll(&waker);
-    same((first, value.poll(&waker)), (Poll::Ready(5), Poll::Pending))
+    assert_same(&rt, value.poll(&waker), Poll::Ready(5));
+    assert_same(&rt, value.poll(&waker), Poll::Pending);
+    Ok(())
 }
 
 // What a poll before the sender has sent 21 returns, and one after that.
@@ -60,7 +61,8 @@ fn a_closure_is_asked_at_each_poll(rt: HostRuntime) -> Result<(), Fail> {
     let set = FuturesUnorderedBounded::from_iter(rt.alloc(), futures)?;
     let (sender, _receiver) = channel(rt.alloc())?;
     let polled = polls_around(&rt, set, sender)?;
-    same(polled, (Poll::Ready(Some(3)), Poll::Ready(None)))
+    assert_same(&rt, polled, (Poll::Ready(Some(3)), Poll::Ready(None)));
+    Ok(())
 }
 
 #[test]
@@ -72,7 +74,8 @@ fn an_output_goes_through_a_closure(rt: HostRuntime) -> Result<(), Fail> {
     );
     let set = FuturesUnorderedBounded::from_iter(rt.alloc(), vec![in rt.alloc(); doubled]?)?;
     let polled = polls_around(&rt, set, sender)?;
-    same(polled, (Poll::Pending, Poll::Ready(Some(42))))
+    assert_same(&rt, polled, (Poll::Pending, Poll::Ready(Some(42))));
+    Ok(())
 }
 
 #[test]
@@ -82,7 +85,8 @@ fn one_of_two_is_polled(rt: HostRuntime) -> Result<(), Fail> {
     let set = FuturesUnorderedBounded::from_iter(rt.alloc(), futures)?;
     let polled = polls_around(&rt, set, sender)?;
     let wanted = (Poll::Ready(Some(Ok(6))), Poll::Ready(Some(Ok(21))));
-    same(polled, wanted)
+    assert_same(&rt, polled, wanted);
+    Ok(())
 }
 
 #[test]
@@ -93,5 +97,6 @@ fn items_of_iterators_take_turns(rt: HostRuntime) -> Result<(), Fail> {
     ]?;
     let merge = MergeBounded::from_iter(rt.alloc(), streams)?;
     let items = collected(&rt, merge)??;
-    same(items.as_slice(), [1, 10, 2].as_slice())
+    assert_same(&rt, items.as_slice(), [1, 10, 2].as_slice());
+    Ok(())
 }

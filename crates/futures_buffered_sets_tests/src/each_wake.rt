@@ -1,4 +1,5 @@
 // Each of many slots, woken alone.
+use crate::same::assert_same;
 use crate::wakers::wakers_of;
 use futures::task::Poll;
 use futures::test::MockTask;
@@ -6,12 +7,12 @@ use futures_buffered_core::ready_shared::{SharedReady, SharedWaker};
 use futures_buffered_core::ready_source::SlotWaker;
 use futures_buffered_sets::{FuturesUnorderedBounded, SlotFuture};
 use std::alloc::Global;
+use std::process::Abort;
 use std::sync::atomic::AtomicU64;
 use std::sync::atomic::Ordering::SeqCst;
 use std::test::Fail;
 use test_support::polling::poll_next;
 use test_support::run_on::run_on;
-use test_support::same::same;
 
 // More slots than two bytes can count.
 const SLOTS: usize = 70_000;
@@ -58,32 +59,32 @@ fn polled(task: &MockTask, set: &mut Set<'_>, polls: &Polls) -> (bool, u64, u64)
 }
 
 // Each push is followed by a poll, which polls the future that was pushed and no other.
-fn fill_each<'a>(task: &MockTask, set: &mut Set<'a>, polls: &'a Polls) -> Result<(), Fail> {
+fn fill_each<'a>(rt: &impl Abort, task: &MockTask, set: &mut Set<'a>, polls: &'a Polls) {
     for slot in 0..SLOTS as u64 {
-        same(set.try_push(Noted { polls }).is_ok(), true)?;
-        same(
+        assert_same(rt, set.try_push(Noted { polls }).is_ok(), true);
+        assert_same(
+            rt,
             polled(task, set, polls),
             (true, slot.saturating_add(1), slot),
-        )?;
+        );
     }
-    Ok(())
 }
 
 // A wake by the waker of a slot wakes the task, and the next poll polls the future in this slot and no other.
 fn wake_each(
+    rt: &impl Abort,
     task: &MockTask,
     wakers: &Vec<SharedWaker>,
     set: &mut Set<'_>,
     polls: &Polls,
-) -> Result<(), Fail> {
+) {
     for (slot, waker) in wakers.iter().enumerate() {
-        same(task.is_woken(), false)?;
+        assert_same(rt, task.is_woken(), false);
         waker.wake();
-        same(task.is_woken(), true)?;
+        assert_same(rt, task.is_woken(), true);
         let count = (SLOTS as u64).saturating_add(slot as u64).saturating_add(1);
-        same(polled(task, set, polls), (true, count, slot as u64))?;
+        assert_same(rt, polled(task, set, polls), (true, count, slot as u64));
     }
-    Ok(())
 }
 
 #[test]
@@ -94,8 +95,9 @@ fn each_of_70_000_slots_is_woken_alone(rt: HostRuntime) -> Result<(), Fail> {
         slot: AtomicU64::new(0),
     };
     run_on(new_set(rt.alloc()), |(wakers, set)| {
-        same(wakers.len(), SLOTS)?;
-        fill_each(&task, set, &polls)?;
-        wake_each(&task, wakers, set, &polls)
+        assert_same(&rt, wakers.len(), SLOTS);
+        fill_each(&rt, &task, set, &polls);
+        wake_each(&rt, &task, wakers, set, &polls);
+        Ok(())
     })
 }

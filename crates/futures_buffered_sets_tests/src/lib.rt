@@ -6,7 +6,7 @@
 //! - `items`: items that are not drawn, futures that contain a closure, and the slot that a poll names.
 //! - `threads`: what other threads poll and feed.
 //! - `wakes`: ten million wakes, and a thread whose wakes are each answered.
-//! - `each_wake`: each of 70,000 slots, woken alone. `wakers` has a waker of each slot.
+//! - `each_wake`: each of 70,000 slots, woken alone. `wakers` has a waker of each slot, and `same` an assertion as a call.
 #![tactic(auto)]
 
 #[cfg(test)]
@@ -17,6 +17,8 @@ mod items;
 mod joins_sources;
 #[cfg(test)]
 mod merges;
+#[cfg(test)]
+mod same;
 #[cfg(test)]
 mod sources;
 #[cfg(test)]

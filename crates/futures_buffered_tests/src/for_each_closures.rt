@@ -1,4 +1,5 @@
 // A stream that contains a closure, under a for-each.
+use crate::same::assert_same;
 use futures::executor::block_on;
 use futures::task::Poll;
 use futures::test::MockTask;
@@ -6,6 +7,7 @@ use futures::{Future, StreamExt, stream};
 use futures_buffered::future::ready;
 use futures_buffered::{BufferedStreamExt, NewFault};
 use std::alloc::{AllocGlobal, Global};
+use std::process::Abort;
 use std::random::RandomSource;
 use std::sync::atomic::Ordering::SeqCst;
 use std::sync::{Arc, Wait};
@@ -15,7 +17,6 @@ use test_support::counted_source::SourceLog;
 use test_support::counter::{Counter, new_counter};
 use test_support::dropped::Dropped;
 use test_support::run_on::run_on;
-use test_support::same::same;
 
 // Adds the double of each of three numbers.
 fn add_doubles(rt: &(impl Wait + RandomSource + AllocGlobal), sum: Counter) -> Result<(), Fail> {
@@ -32,12 +33,13 @@ fn add_doubles(rt: &(impl Wait + RandomSource + AllocGlobal), sum: Counter) -> R
 fn a_map_under_for_each_concurrent(rt: HostRuntime) -> Result<(), Fail> {
     let sum = new_counter(rt.alloc())?;
     add_doubles(&rt, Arc::try_clone(&sum)?)?;
-    same(sum.load(SeqCst), 12)
+    assert_same(&rt, sum.load(SeqCst), 12);
+    Ok(())
 }
 
 // A closure holds the mark.
 fn drops_its_closure(
-    alloc: Global,
+    rt: &(impl Abort + AllocGlobal),
     task: &MockTask,
     log: &SourceLog,
     mark: Dropped,
@@ -47,14 +49,12 @@ fn drops_its_closure(
         ready(())
     };
     let numbers = stream::iter(1..4u64);
-    let mut each = BufferedStreamExt::for_each_concurrent(numbers, alloc, 2, call)?;
+    let mut each = BufferedStreamExt::for_each_concurrent(numbers, rt.alloc(), 2, call)?;
     let ended = task.enter(|cx| each.poll(cx));
-    let before = log.items.load(SeqCst);
+    assert_same(rt, (ended, log.items.load(SeqCst)), (Poll::Ready(()), 0));
     drop(each);
-    same(
-        (ended, before, log.items.load(SeqCst)),
-        (Poll::Ready(()), 0, 1),
-    )
+    assert_same(rt, log.items.load(SeqCst), 1);
+    Ok(())
 }
 
 // What the closure holds goes with the for-each, also with one that ended before.
@@ -62,7 +62,7 @@ fn drops_its_closure(
 fn a_for_each_drops_its_closure(rt: HostRuntime) -> Result<(), Fail> {
     run_on(
         task_and_log(&rt),
-        |(task, log)| drops_its_closure(rt.alloc(), task, log, log.dropped()?),
+        |(task, log)| drops_its_closure(&rt, task, log, log.dropped()?),
     )
 }
 
@@ -81,8 +81,7 @@ fn fault_of(alloc: Global, mark: Dropped) -> Option<NewFault> {
 fn a_refused_closure_is_dropped(rt: HostRuntime) -> Result<(), Fail> {
     let log = SourceLog::new(rt.alloc())?;
     let fault = fault_of(rt.alloc(), log.dropped()?);
-    same(
-        (fault, log.items.load(SeqCst)),
-        (Some(NewFault::TooLarge), 1),
-    )
+    assert_same(&rt, fault, Some(NewFault::TooLarge));
+    assert_same(&rt, log.items.load(SeqCst), 1);
+    Ok(())
 }

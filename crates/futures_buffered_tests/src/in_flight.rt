@@ -2,6 +2,7 @@
 //! whom a future that waits for the next output wakes.
 ghost use Rattle.futures_buffered.specs.InFlightMerge.{CanPollStreams};
 
+use crate::same::assert_same;
 use futures::channel::mpsc::{UnboundedReceiver, UnboundedSender, unbounded};
 use futures::channel::oneshot::{Canceled, Receiver, Sender, channel};
 use futures::task::{Context, Poll};
@@ -10,10 +11,10 @@ use futures::{Future, Stream, StreamExt};
 use futures_buffered::in_flight::MergeBounded;
 use futures_buffered_in_flight::{FuturesOrderedBounded, FuturesUnorderedBounded, Kept, Key};
 use std::alloc::{AllocGlobal, Global};
+use std::process::Abort;
 use std::test::Fail;
 use test_support::keep::keep;
 use test_support::pairs::pairs;
-use test_support::same::same;
 
 type Set = FuturesUnorderedBounded<Receiver<u64>>;
 
@@ -69,7 +70,7 @@ fn comes(
 
 // The first push is cancelled. The outputs of the other two come, that of the last one first.
 fn try_tags(
-    rt: &impl AllocGlobal,
+    rt: &(impl AllocGlobal + Abort),
     cx: &mut Context<'_>,
     set: &mut TextSet,
     senders: &mut Vec<Sender<u64>>,
@@ -77,15 +78,20 @@ fn try_tags(
     let first = push(rt, set, senders, "one")?;
     let second = push(rt, set, senders, "two")?;
     let third = push(rt, set, senders, "three")?;
-    same(push(rt, set, senders, "four")?, Err(true))?;
-    same(cancels(set, first, "one"), true)?;
-    same(cancels(set, first, "one"), false)?;
-    same(comes(cx, set, senders, 3, "three"), third)?;
-    same(comes(cx, set, senders, 2, "two"), second)?;
-    same(first.ok() < second.ok() && second.ok() < third.ok(), true)
+    assert_same(rt, push(rt, set, senders, "four")?, Err(true));
+    assert_same(rt, cancels(set, first, "one"), true);
+    assert_same(rt, cancels(set, first, "one"), false);
+    assert_same(rt, comes(cx, set, senders, 3, "three"), third);
+    assert_same(rt, comes(cx, set, senders, 2, "two"), second);
+    assert_same(
+        rt,
+        first.ok() < second.ok() && second.ok() < third.ok(),
+        true,
+    );
+    Ok(())
 }
 
-fn tagged(rt: &impl AllocGlobal, cx: &mut Context<'_>) -> Result<(), Fail> {
+fn tagged(rt: &(impl AllocGlobal + Abort), cx: &mut Context<'_>) -> Result<(), Fail> {
     let mut senders = Vec::new(rt.alloc());
     let mut set: TextSet = Kept::new(FuturesUnorderedBounded::new(rt.alloc(), 3)?);
     try_tags(rt, cx, &mut set, &mut senders)
@@ -128,9 +134,10 @@ fn merge_extended(alloc: Global) -> Result<Extended, Fail> {
 // The refused item comes back, and those after it are not drawn.
 #[test]
 fn extend_in_flight_stops_at_the_first_refusal(rt: HostRuntime) -> Result<(), Fail> {
-    same(set_extended(rt.alloc())?, (true, 2, 2))?;
-    same(queue_extended(rt.alloc())?, (true, 2, 2))?;
-    same(merge_extended(rt.alloc())?, (true, 2, 2))
+    assert_same(&rt, set_extended(rt.alloc())?, (true, 2, 2));
+    assert_same(&rt, queue_extended(rt.alloc())?, (true, 2, 2));
+    assert_same(&rt, merge_extended(rt.alloc())?, (true, 2, 2));
+    Ok(())
 }
 
 // The next item of the merge and the key of its stream, after this number was sent.
@@ -150,31 +157,34 @@ fn next_keyed(
     }
 }
 
-fn merged_by_key(alloc: Global, cx: &mut Context<'_>) -> Result<(), Fail> {
-    let (first, stream) = unbounded::<u64>(alloc)?;
-    let (second, other) = unbounded::<u64>(alloc)?;
-    let mut merge = MergeBounded::new(alloc, 2);
+fn merged_by_key(rt: &(impl AllocGlobal + Abort), cx: &mut Context<'_>) -> Result<(), Fail> {
+    let (first, stream) = unbounded::<u64>(rt.alloc())?;
+    let (second, other) = unbounded::<u64>(rt.alloc())?;
+    let mut merge = MergeBounded::new(rt.alloc(), 2);
     let (Ok(key), Ok(other)) = (merge.try_push(stream), merge.try_push(other)) else {
-        return same(merge.len(), 2);
+        assert_same(rt, merge.len(), 2);
+        return Ok(());
     };
-    same(next_keyed(cx, &mut merge, &first, 1), Some((1, key)))?;
-    same(next_keyed(cx, &mut merge, &second, 2), Some((2, other)))?;
-    same(next_keyed(cx, &mut merge, &first, 3), Some((3, key)))?;
-    same(
+    assert_same(rt, next_keyed(cx, &mut merge, &first, 1), Some((1, key)));
+    assert_same(rt, next_keyed(cx, &mut merge, &second, 2), Some((2, other)));
+    assert_same(rt, next_keyed(cx, &mut merge, &first, 3), Some((3, key)));
+    assert_same(
+        rt,
         (merge.cancel(key), merge.cancel(key), merge.len()),
         (true, false, 1),
-    )?;
+    );
     let _ = first.unbounded_send(4);
-    same(next_keyed(cx, &mut merge, &second, 5), Some((5, other)))?;
-    same(merge.cancel(other), true)?;
-    same(merge.poll_next(cx), Poll::Ready(None))
+    assert_same(rt, next_keyed(cx, &mut merge, &second, 5), Some((5, other)));
+    assert_same(rt, merge.cancel(other), true);
+    assert_same(rt, merge.poll_next(cx), Poll::Ready(None));
+    Ok(())
 }
 
 // A stream has the key of its push at each of its items. The item that a cancelled stream has ready is not returned.
 #[test]
 fn a_stream_keeps_its_key(rt: HostRuntime) -> Result<(), Fail> {
     let task = MockTask::new(&rt)?;
-    task.enter(|cx| merged_by_key(rt.alloc(), cx))
+    task.enter(|cx| merged_by_key(&rt, cx))
 }
 
 // Whether it is pending, and whether its task is woken then.
@@ -192,7 +202,8 @@ fn the_next_is_waited_for(rt: HostRuntime) -> Result<(), Fail> {
     let task = MockTask::new(&rt)?;
     let (_senders, receivers) = pairs(rt.alloc(), 1, || channel::<u64>(rt.alloc()).ok())?;
     let mut set = FuturesUnorderedBounded::from_iter(rt.alloc(), receivers)?;
-    same(waits(&task, set.next()), (true, false))
+    assert_same(&rt, waits(&task, set.next()), (true, false));
+    Ok(())
 }
 
 // Nor by an output.
@@ -202,10 +213,9 @@ fn the_next_that_is_there_wakes_nobody(rt: HostRuntime) -> Result<(), Fail> {
     let (mut senders, receivers) = pairs(rt.alloc(), 2, || channel::<u64>(rt.alloc()).ok())?;
     let mut set = FuturesUnorderedBounded::from_iter(rt.alloc(), receivers)?;
     let sent = senders.pop().map(|sender| sender.send(5));
-    same(
-        (sent, waits(&task, set.next())),
-        (Some(Ok(())), (false, false)),
-    )
+    assert_same(&rt, sent, Some(Ok(())));
+    assert_same(&rt, waits(&task, set.next()), (false, false));
+    Ok(())
 }
 
 #[test]
@@ -213,7 +223,8 @@ fn the_next_with_its_key_is_waited_for(rt: HostRuntime) -> Result<(), Fail> {
     let task = MockTask::new(&rt)?;
     let (_senders, receivers) = pairs(rt.alloc(), 1, || channel::<u64>(rt.alloc()).ok())?;
     let set = FuturesUnorderedBounded::from_iter(rt.alloc(), receivers)?;
-    same(waits(&task, set.into_next()), (true, false))
+    assert_same(&rt, waits(&task, set.into_next()), (true, false));
+    Ok(())
 }
 
 #[test]
@@ -221,7 +232,8 @@ fn the_front_is_waited_for(rt: HostRuntime) -> Result<(), Fail> {
     let task = MockTask::new(&rt)?;
     let (_senders, receivers) = pairs(rt.alloc(), 1, || channel::<u64>(rt.alloc()).ok())?;
     let queue: Queue = FuturesOrderedBounded::from_iter(rt.alloc(), receivers)?;
-    same(waits(&task, queue.into_next()), (true, false))
+    assert_same(&rt, waits(&task, queue.into_next()), (true, false));
+    Ok(())
 }
 
 #[test]
@@ -229,9 +241,7 @@ fn the_next_of_a_merge_is_waited_for(rt: HostRuntime) -> Result<(), Fail> {
     let task = MockTask::new(&rt)?;
     let (_sender, stream) = unbounded::<u64>(rt.alloc())?;
     let mut merge = MergeBounded::new(rt.alloc(), 2);
-    let is_pushed = merge.try_push(stream).is_ok();
-    same(
-        (is_pushed, waits(&task, merge.into_next())),
-        (true, (true, false)),
-    )
+    assert_same(&rt, merge.try_push(stream).is_ok(), true);
+    assert_same(&rt, waits(&task, merge.into_next()), (true, false));
+    Ok(())
 }

@@ -1,4 +1,5 @@
 //! What holds futures of the kit: a buffer, of futures that a thread completes, and the for-eaches.
+use crate::same::assert_same;
 use futures::channel::oneshot::{Sender, channel};
 use futures::executor::block_on;
 use futures::future::ready;
@@ -11,7 +12,6 @@ use std::thread::yield_now;
 use test_support::counter::new_counter;
 use test_support::ends::ended_beside;
 use test_support::pairs::pairs;
-use test_support::same::same;
 
 // The last of twenty is sent 0.
 fn send_all(senders: Vec<Sender<u64>>) {
@@ -29,7 +29,8 @@ fn in_the_order_of_the_stream(rt: HostRuntime) -> Result<(), Fail> {
     let all = outputs.collect(rt.alloc());
     let all = ended_beside(&rt, all, move || send_all(senders))??;
     let are_in_order = all.iter().enumerate().all(|(n, one)| *one == Ok(n as u64));
-    same((all.len(), are_in_order), (20, true))
+    assert_same(&rt, (all.len(), are_in_order), (20, true));
+    Ok(())
 }
 
 #[test]
@@ -42,7 +43,8 @@ fn for_each_item(rt: HostRuntime) -> Result<(), Fail> {
         ready(n).map(|_| ())
     })?;
     block_on(&rt, all)?;
-    same(sum.load(SeqCst), 190)
+    assert_same(&rt, sum.load(SeqCst), 190);
+    Ok(())
 }
 
 // Item 13 fails, and the closure is not called with each of those behind it.
@@ -58,5 +60,6 @@ fn for_each_item_up_to_an_error(rt: HostRuntime) -> Result<(), Fail> {
     let ended = block_on(&rt, all)?;
     let calls = calls.load(SeqCst);
     let wanted = (Err(13), true, true);
-    same((ended, 14 <= calls, calls <= 18), wanted)
+    assert_same(&rt, (ended, 14 <= calls, calls <= 18), wanted);
+    Ok(())
 }

@@ -1,9 +1,11 @@
 // When a future under `map` or `then` is dropped.
+use crate::same::assert_same;
 use futures::task::Poll;
 use futures::test::MockTask;
 use futures_buffered::future::{map, ready, then};
 use futures_buffered::{FuturesUnorderedBounded, SharedReady};
 use std::alloc::{AllocError, Global};
+use std::process::Abort;
 use std::sync::Arc;
 use std::sync::atomic::Ordering::SeqCst;
 use std::test::Fail;
@@ -13,7 +15,6 @@ use test_support::counter::Counter;
 use test_support::dropped::Dropped;
 use test_support::polling::poll_next;
 use test_support::run_on::run_on;
-use test_support::same::same;
 
 // A future that counts its drop, and the number that it adds to.
 fn counted(log: &SourceLog) -> Result<(Dropped, Counter), AllocError> {
@@ -21,40 +22,36 @@ fn counted(log: &SourceLog) -> Result<(Dropped, Counter), AllocError> {
     Ok((log.dropped()?, seen))
 }
 
-fn try_map(alloc: Global, task: &MockTask, log: &SourceLog) -> Result<(), Fail> {
+fn try_map(rt: &impl Abort, alloc: Global, task: &MockTask, log: &SourceLog) -> Result<(), Fail> {
     let mut set = FuturesUnorderedBounded::<_, SharedReady>::new(alloc, 1)?;
     let (future, seen) = counted(log)?;
     let _ = set.try_push(map(future, move |()| seen.load(SeqCst)));
-    let before = log.items.load(SeqCst);
-    same(
-        (before, poll_next(task, &mut set)),
-        (0, Poll::Ready(Some(1))),
-    )
+    assert_same(rt, log.items.load(SeqCst), 0);
+    assert_same(rt, poll_next(task, &mut set), Poll::Ready(Some(1)));
+    Ok(())
 }
 
 #[test]
 fn a_mapped_future_is_dropped_before_the_call(rt: HostRuntime) -> Result<(), Fail> {
     run_on(
         task_and_log(&rt),
-        |(task, log)| try_map(rt.alloc(), task, log),
+        |(task, log)| try_map(&rt, rt.alloc(), task, log),
     )
 }
 
-fn try_then(alloc: Global, task: &MockTask, log: &SourceLog) -> Result<(), Fail> {
+fn try_then(rt: &impl Abort, alloc: Global, task: &MockTask, log: &SourceLog) -> Result<(), Fail> {
     let mut set = FuturesUnorderedBounded::<_, SharedReady>::new(alloc, 1)?;
     let (future, seen) = counted(log)?;
     let _ = set.try_push(then(future, move |()| ready(seen.load(SeqCst))));
-    let before = log.items.load(SeqCst);
-    same(
-        (before, poll_next(task, &mut set)),
-        (0, Poll::Ready(Some(1))),
-    )
+    assert_same(rt, log.items.load(SeqCst), 0);
+    assert_same(rt, poll_next(task, &mut set), Poll::Ready(Some(1)));
+    Ok(())
 }
 
 #[test]
 fn a_future_that_is_followed_is_dropped_before_the_call(rt: HostRuntime) -> Result<(), Fail> {
     run_on(
         task_and_log(&rt),
-        |(task, log)| try_then(rt.alloc(), task, log),
+        |(task, log)| try_then(&rt, rt.alloc(), task, log),
     )
 }

@@ -1,4 +1,5 @@
 // Buffers and a for-each under `block_on`, whose futures another thread wakes.
+use crate::same::assert_same;
 use futures::{StreamExt, stream};
 use futures_buffered::BufferedStreamExt;
 use std::alloc::AllocGlobal;
@@ -11,7 +12,6 @@ use test_support::cells::{Cells, new_cells, send_each};
 use test_support::counter::{Counter, new_counter};
 use test_support::ends::ended_beside;
 use test_support::receiver::Receiver;
-use test_support::same::same;
 use test_support::sums::count_and_sum;
 
 #[test]
@@ -20,7 +20,8 @@ fn outputs_as_they_finish_while_a_thread_wakes(rt: HostRuntime) -> Result<(), Fa
     let buffer = stream::iter(receivers).buffered_unordered(rt.alloc(), 2)?;
     let outputs = buffer.collect(rt.alloc());
     let outputs = ended_beside(&rt, outputs, move || send_each(&senders, [1, 2, 4, 8]))??;
-    same(count_and_sum(outputs.as_slice()), (4, 15))
+    assert_same(&rt, count_and_sum(outputs.as_slice()), (4, 15));
+    Ok(())
 }
 
 // The last in the stream is sent first.
@@ -34,7 +35,8 @@ fn outputs_in_order_while_a_thread_wakes(rt: HostRuntime) -> Result<(), Fail> {
     let buffer = stream::iter(receivers).buffered_ordered(rt.alloc(), 2)?;
     let outputs = buffer.collect(rt.alloc());
     let outputs = ended_beside(&rt, outputs, move || send_each(&senders, [1, 2, 4, 8]))??;
-    same(outputs.as_slice(), [8, 4, 2, 1].as_slice())
+    assert_same(&rt, outputs.as_slice(), [8, 4, 2, 1].as_slice());
+    Ok(())
 }
 
 // Has the closure called with each receiver, while a thread sends.
@@ -56,5 +58,6 @@ where
 fn a_for_each_while_a_thread_wakes(rt: HostRuntime) -> Result<(), Fail> {
     let calls = new_counter(rt.alloc())?;
     call_each(&rt, new_cells(&rt, rt.alloc(), 4)?, Arc::try_clone(&calls)?)?;
-    same(calls.load(SeqCst), 4)
+    assert_same(&rt, calls.load(SeqCst), 4);
+    Ok(())
 }

@@ -2,10 +2,10 @@
 ghost use Rattle.std.specs.Prelude.{◌≡◌, ◌+◌, ◌≤◌};
 ghost use Rattle.futures_buffered.specs.FuturesUnorderedBounded.{held_in, slots_in};
 
+use crate::same::assert_same;
 use futures_buffered::future::{Ready, ready};
 use futures_buffered::{FuturesUnorderedBounded, SharedReady};
 use std::test::Fail;
-use test_support::same::same;
 
 fn push_four(set: &mut FuturesUnorderedBounded<Ready<()>, SharedReady>)
     requires { held_in set.old + 4 ≤ slots_in set.old }
@@ -20,5 +20,6 @@ fn push_four(set: &mut FuturesUnorderedBounded<Ready<()>, SharedReady>)
 fn a_loop_of_pushes(rt: HostRuntime) -> Result<(), Fail> {
     let mut set = FuturesUnorderedBounded::new(rt.alloc(), 4)?;
     push_four(&mut set);
-    same(set.len(), 4)
+    assert_same(&rt, set.len(), 4);
+    Ok(())
 }
