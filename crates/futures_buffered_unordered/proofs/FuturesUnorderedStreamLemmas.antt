@@ -14,12 +14,13 @@ use Rattle.futures_buffered_unordered.proofs.HeldGivesLemmas.{Gathers-Within, Ga
 use Rattle.futures_buffered_unordered.proofs.FuturesUnorderedBoundedLemmas.{poll_counted, poll_pending_holds, poll_end_is_empty, poll_gave, poll_still}
 use Rattle.futures_buffered_unordered.specs.FuturesUnordered.{AnyNeeds, EachHeld, Growing, held_in_all}
 use Rattle.futures_buffered_unordered.specs.PollsBounded.{PollOneOf, PollsBounded, ReadySourceOf, unless_registered}
-use Rattle.futures_buffered_unordered.specs.PollsGrowing.{PollsGrowing}
+use Rattle.futures_buffered_unordered.specs.PollsGrowing.{PollsGroups, PollsGrowing}
 use Rattle.futures_buffered_unordered.specs.StreamAnswers.{StreamAnswers, stream_of}
 use Rattle.futures_buffered_unordered.specs.FuturesUnorderedInvariant.{KeepsGroup}
 use Rattle.futures_buffered_unordered.specs.FuturesUnordered.{AnyGroupMayGive, ComesFromGroups}
 use Rattle.futures_buffered_unordered.proofs.FuturesUnorderedInvariantLemmas.{alike_asked, alike_self}
 use Rattle.futures_buffered_unordered.proofs.GroupsLemmas.{Weighs, turns_any, turns_output, turns_sum, turns_weigh}
+use Rattle.futures_buffered_unordered.proofs.FuturesUnorderedLemmas.{covered_of}
 use Rattle.futures_buffered_unordered.proofs.StreamAnswersLemmas.{answers_of}
 
 module _ {R F W A S : Type 0} (rule : PollOneOf R F W A) (source : ReadySourceOf S W)
@@ -62,18 +63,18 @@ module _ {R F W A S : Type 0} (rule : PollOneOf R F W A) (source : ReadySourceOf
     PollsTurns answer = AsksInTurn PollsOneGroup (length old.listed) false old answer new cx left
 
     -- as many futures as before, except that of an output
-    pub count_of : (answer : Poll (Option A)) → PollsTurns answer → held_in_all new.listed + outputs_in answer ≡ held_in_all old.listed
+    count_of : (answer : Poll (Option A)) → PollsTurns answer → held_in_all new.listed + outputs_in answer ≡ held_in_all old.listed
     count_of answer h = turns_sum PollsOneGroup held_in outputs_in counted ended_empty refl refl _ _ old answer new cx left h
 
     left_of : (answer : Poll (Option A)) → PollsTurns answer → Weighs {A = A} PollsOneGroup held_in ended_empty pending_holds answer (held_in_all new.listed)
     left_of answer h = turns_weigh PollsOneGroup held_in ended_empty pending_holds old answer new cx left h
 
-    pub held_of : (answer : Poll (Option A)) → PollsTurns answer → OnPending answer (0 < held_in_all new.listed)
+    held_of : (answer : Poll (Option A)) → PollsTurns answer → OnPending answer (0 < held_in_all new.listed)
     held_of (Ready o) h = tt
     held_of Pending h = left_of Pending h
 
     -- the answer is the end where no future was held
-    pub ends_of : (answer : Poll (Option A)) → PollsTurns answer → (answer ≡ Ready None) ↔ (held_in_all old.listed ≡ 0)
+    ends_of : (answer : Poll (Option A)) → PollsTurns answer → (answer ≡ Ready None) ↔ (held_in_all old.listed ≡ 0)
     ends_of (Ready None) h = (λ _. omega (arith, count_of (Ready None) h, left_of (Ready None) h), λ _. refl)
     ends_of (Ready (Some x)) h = (λ e. absurd (cc e), λ none. absurd (omega (arith, none, count_of (Ready (Some x)) h)))
     ends_of Pending h = (λ e. absurd (cc e), λ none. absurd (omega (arith, none, count_of Pending h, left_of Pending h)))
@@ -106,3 +107,14 @@ module _ {R F W A S : Type 0} (rule : PollOneOf R F W A) (source : ReadySourceOf
   answers_as_stream old new answer cx left it =
       let gave = it.groups.gave in
       answers_of _ old new answer cx left (value_of _ _ cx left answer gave) (rest_of _ _ cx left answer gave) (same_of _ _ cx left answer gave) it.groups.pollable it.registered it.groups.kept
+
+  -- a poll of the groups, each polled as a bounded set is, is a poll of the set
+  pub polls_growing : (old new : Growing F S) (answer : Poll (Option A)) (cx left : Context) → PollsGroups rule.can_poll PollsOneGroup source.needs old answer new cx left → PollsGrowing rule source old answer new cx left
+  polls_growing old new answer cx left polls =
+      let gave = polls.gave in
+      record {
+        groups = polls;
+        ends = ends_of _ _ cx left answer gave;
+        count = count_of _ _ cx left answer gave;
+        registered = covered_of source.needs left answer new.groups.listed polls.covered (held_of _ _ cx left answer gave);
+      }

@@ -358,9 +358,11 @@ impl<F: Drop, S: ReadySource> FuturesUnorderedBounded<F, S> {
         if self.slots.is_empty() {
             return Poll::Ready(None);
         }
-        match self.poll_first(rule, cx) {
-            Poll::Ready((i, output)) => {
-                self.empty_slot(i);
+        // As `poll_first` does; a call of it would take half a nanosecond more.
+        S::register(&mut self.source, cx);
+        match self.poll_first_registered(rule, cx) {
+            Poll::Ready((slot, output)) => {
+                self.empty_slot(slot);
                 Poll::Ready(Some(output))
             }
             Poll::Pending => Poll::Pending,

@@ -5,6 +5,7 @@ ghost use Rattle.futures_buffered_unordered.specs.PollsBounded.{itself};
 ghost use Rattle.futures_buffered_unordered.specs.PollsGrowing.{PollsGrowing};
 ghost use Rattle.futures_buffered_unordered.specs.FuturesUnordered.{ComesFromGroups};
 
+use crate::ask_group::ByRule;
 use crate::fused::{FusedStream, SizeHint};
 use crate::futures_unordered::FuturesUnordered;
 use crate::poll_one::PollFuture;
@@ -29,7 +30,7 @@ impl<F: SlotFuture<S::Waker>, S: NewSource> Stream for FuturesUnordered<F, S> {
         ensures { PollsGrowing (itself F.SlotFuture) S.ReadySource
             self.old result self.new cx.old cx.new }
     {
-        self.poll_with(&PollFuture, cx)
+        self.poll_groups(&ByRule(&PollFuture), cx)
     }
 }
 

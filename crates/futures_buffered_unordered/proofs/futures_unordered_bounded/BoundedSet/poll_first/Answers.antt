@@ -1,13 +1,7 @@
+use Rattle.futures_buffered_unordered.proofs.PollsBoundedLemmas.{takes_after}
 use Rattle.futures_buffered_unordered.proofs.futures_unordered_bounded.BoundedSet.poll_first.Goals as goal
 
 pub returns : goal.returns
 returns g c =
-    let takes = c.poll_first_registered.ensures in
-    rw (← c.self.view_is) (record {
-      source_then = c.register.new.self;
-      task_then = _;
-      registers = c.register.ensures.registered;
-      registers_task = c.register.ensures.poll;
-      takes = takes;
-      kept = λ fact holds. takes.kept fact (c.register.ensures.kept fact holds);
-    })
+    let registered = c.register.ensures in
+    rw (← c.self.view_is) (takes_after g.R.PollOne g.S.ReadySource _ _ c.register.new.self _ _ _ _ registered.registered registered.poll registered.kept c.poll_first_registered.ensures)
