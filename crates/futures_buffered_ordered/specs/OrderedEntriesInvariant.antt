@@ -29,8 +29,8 @@ pub record AddingKeeps {Q A : Type 0} (with_number : ℕ → Q → ℕ) (count :
   -- the set holds the futures of the entries in progress
   pub numbered : IsNumbered with_number count new
 
--- The invariant of a queue: the set holds the futures of the entries in progress, and the list was made with each place
--- that the set asks for, of which there are fewer than 2^62.
+-- The invariant of a queue: the set holds the futures of the entries in progress. The list was made with the places of
+-- the set, of which there are fewer than 2^62.
 pub record KeepsQueue {Q A : Type 0} (with_number : ℕ → Q → ℕ) (count places : Q → ℕ) (q : Ordered Q A) : Type 0 where
   pub numbered : IsNumbered with_number count q
   pub fits : places q.set ≤ q.room

@@ -10,7 +10,7 @@ use futures_buffered_unordered::fused::{FusedStream, SizeHint};
 use futures_buffered_unordered::poll_one::PollFuture;
 use std::marker::Model;
 
-/// Futures whose outputs come in the order of a list, with additions at both ends. Those in progress are in a set `Q`.
+/// Futures whose outputs come in the order of a list, with additions at both ends. A set holds the futures in progress.
 ///
 /// A contract sees the set, in which each future has a number, and the entries from the front to the back. An entry in
 /// progress has the number of its future. Of a number the contract says only which entry and which future have it. The
