@@ -80,6 +80,7 @@ impl<F: Future<Output: Drop>, K: Kind> FuturesUnorderedBy<F, usize, K> {
 }
 
 impl<F: Future<Output: Drop>, K: Kind> NumberedSet for FuturesUnorderedBy<F, usize, K> {
+    ghost use Rattle.std.proofs.Common.{refl};
     ghost use Rattle.std.proofs.Math.Nat.{le_refl, le_trans};
     ghost use Rattle.futures_buffered_ordered.specs.Numbered.{PushesInto};
 
@@ -132,6 +133,8 @@ impl<F: Future<Output: Drop>, K: Kind> NumberedSet for FuturesUnorderedBy<F, usi
     ghost keeps_self = { λ a. le_refl _ };
 
     ghost keeps_on = { λ a b c first then. le_trans first then };
+
+    ghost keeps_places = { λ a b kept. refl };
 }
 
 impl<F: Future<Output: Drop>, K> NumberedPolls<PollFuture> for FuturesUnorderedBy<F, usize, K> {

@@ -1,6 +1,6 @@
 -- What the calls of an ordered queue make of its entries and their numbers.
-use Rattle.std.proofs.Common.{◌≡◌, ◌⊎◌, ℕ, zero, suc, ◌+◌, ◌-◌, ◌^◌, ◌%◌, ◌<◌, ◌≤◌, Bool, true, true≢false, cond, List, [], ◌∷◌, ◌++◌, length, set, count_by, Option, Some, None, Ok, Err, refl, sym, subst, ap, inl, inr, arith, ◌∙◌}
-use Rattle.futures_buffered_ordered.proofs.Common.{slice_get, sum_by, sum_by-cons, sum_by-set, sum_by_push, count_by-le-length, eq-eqb, Context, Ready, NumberedPollsOf, PollsNumberedSet, PushesInto, one_at, outputs_with, AddsBack, AddsFront, BesideTask, Entry, IsLength, IsUnused, Kept, MayRefuse, NoNumberTwice, NumberedSetOf, Ordered, PushesOrHandsBack, QueueIsAtBound, Running, SetYields, is_running, runs_with, starts_running, AddingKeeps, IsNumbered, entry_of, numbered_from}
+use Rattle.std.proofs.Common.{◌≡◌, ◌⊎◌, ℕ, zero, suc, ◌+◌, ◌-◌, ◌^◌, ◌%◌, ◌<◌, ◌≤◌, Bool, true, cond, List, [], ◌∷◌, ◌++◌, length, set, count_by, Option, Some, None, Ok, Err, refl, sym, subst, ap, inl, inr, arith, ◌∙◌}
+use Rattle.futures_buffered_ordered.proofs.Common.{slice_get, sum_by, sum_by-cons, sum_by-set, sum_by_push, count_by-le-length, eq-eqb, Context, Ready, NumberedPollsOf, PollsNumberedSet, PushesInto, one_at, outputs_with, AddsBack, AddsFront, BesideTask, Entry, IsLength, IsUnused, Kept, MayRefuse, NoNumberTwice, NumberedSetOf, Ordered, PushesOrHandsBack, QueueIsAtBound, Running, SetYields, is_running, runs_with, starts_running, AddingKeeps, IsNumbered, KeepsQueue, entry_of, numbered_from}
 use Rattle.std.proofs.lemmas.Bool.Decides.{eqb_tells}
 use Rattle.std.proofs.lemmas.Option.{slice_get_within, get_or_from_slice_get}
 use Rattle.futures_buffered_unordered.specs.Groups.{outputs_in}
@@ -87,18 +87,13 @@ module _ {Q A : Type 0} (with_number : ℕ → Q → ℕ) (count : Q → ℕ) wh
   held_by_entries q numbered = omega (arith, numbered.counted, count_by-le-length is_running q.entries)
 
   -- what a queue says of its length
-  pub is_length : (q : Ordered Q A) (n : ℕ) → IsNumbered with_number count q → n ≡ length q.entries → NoNumberTwice q.entries → IsLength with_number count q n
-  is_length q n numbered long once =
-      record { value = long; each = record { as_many = numbered.as_many; once = once }; in_progress = held_by_entries q numbered }
+  pub queue_length : (places : Q → ℕ) (q : Ordered Q A) (n : ℕ) → KeepsQueue with_number count places q → n ≡ length q.entries → NoNumberTwice q.entries → IsLength with_number count q n
+  queue_length places q n keeps long once =
+      record { value = long; each = record { as_many = keeps.numbered.as_many; once = once }; in_progress = held_by_entries q keeps.numbered }
 
-  -- a queue whose front is in progress holds a future
-  pub some_held : (q : Ordered Q A) → IsNumbered with_number count q → starts_running q.entries ≡ true → 0 < count q.set
-  some_held q numbered runs = let some = some_running q.entries runs in omega (arith, numbered.counted, some)
-    where
-      some_running : (es : List (Entry A)) → starts_running es ≡ true → 0 < count_by is_running es
-      some_running [] e = absurd (true≢false (sym e))
-      some_running (Running i ∷ es) e = omega (arith, sum_by-cons (λ (d : Entry A). cond (is_running d) 1 0) (Running i) es)
-      some_running (Kept x ∷ es) e = absurd (true≢false (sym e))
+  -- a call that changes neither the set's places nor the room
+  pub still_keeps : (places : Q → ℕ) (old new : Ordered Q A) → KeepsQueue with_number count places old → IsNumbered with_number count new → places new.set ≡ places old.set → new.room ≡ old.room → KeepsQueue with_number count places new
+  still_keeps places old new keeps numbered same room = record { numbered = numbered; fits = omega (arith, keeps.fits, same, room); small = omega (arith, keeps.small, same) }
 
   -- a new queue: nothing is held, and there is no entry
   pub new_is_numbered : (q : Ordered Q A) → q.entries ≡ [] → ((n : ℕ) → with_number n q.set ≡ 0) → count q.set ≡ 0 → IsNumbered with_number count q
@@ -107,11 +102,6 @@ module _ {Q A : Type 0} (with_number : ℕ → Q → ℕ) (count : Q → ℕ) wh
         as_many = λ n. no_numbers n ∙ ap (λ (l : List (Entry A)). count_by (runs_with n) l) (sym none);
         counted = empty ∙ ap (λ (l : List (Entry A)). count_by is_running l) (sym none);
       }
-
-  -- the set holds as many futures of each number
-  pub polled_is_numbered : (q : Ordered Q A) (new : Q) → IsNumbered with_number count q
-      → ((n : ℕ) → with_number n new ≡ with_number n q.set) → count new ≡ count q.set → IsNumbered with_number count (record { set = new; entries = q.entries; room = q.room })
-  polled_is_numbered q new numbered same counts = record { as_many = λ n. same n ∙ numbered.as_many n; counted = counts ∙ numbered.counted }
 
   -- the front kept its output, and leaves
   pub popped_is_numbered : (q new : Ordered Q A) (x : A) → IsNumbered with_number count q → q.entries ≡ Kept x ∷ new.entries → new.set ≡ q.set → IsNumbered with_number count new

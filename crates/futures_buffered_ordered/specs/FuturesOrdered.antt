@@ -1,14 +1,13 @@
 -- What a contract sees of a growing ordered queue: the words on ordered queues, for a growing set.
 use Rattle.futures_buffered_ordered.specs.Below.{sum_by, Poll, NewFault, Woke, Items, MakesGrown}
-use Rattle.std.specs.Prelude.{◌≡◌, ℕ, Result, ⊤}
+use Rattle.std.specs.Prelude.{◌≡◌, ℕ, Result}
 use Rattle.futures_buffered_core.specs.ReadyShared.{Shared, IsNewShared, MarksShared}
 use Rattle.futures_buffered_unordered.specs.FuturesUnordered.{AnyGroupMayGive, Growing, EachHeld, GrowingPushes}
-use Rattle.futures_buffered_unordered.specs.FuturesUnordered.{IsNewGrowing, SetMayRefuse, SetRefuses, held_in_all}
-use Rattle.futures_buffered_core.specs.declared.ready_source.ReadySource.{Ghosts as ReadySourceOf}
+use Rattle.futures_buffered_unordered.specs.FuturesUnordered.{IsNewGrowing, SetRefuses, held_in_all}
 use Rattle.futures_buffered_unordered.specs.declared.futures_unordered.TheConstants.{FIRST_GROUP}
 use Rattle.futures_buffered_unordered.specs.declared.futures_unordered_bounded.TheConstants.{POLL_LIMIT}
 use Rattle.futures_buffered_ordered.specs.Numbered.{CanPollFuture, PollsNumbered, held_with}
-use Rattle.futures_buffered_ordered.specs.OrderedEntries.{AddsBack, NumberedSetOf, Ordered, IsNewQueue, QueueIsAtBound}
+use Rattle.futures_buffered_ordered.specs.OrderedEntries.{AddsBack, Ordered, IsNewQueue, QueueIsAtBound}
 use Rattle.futures_buffered_ordered.specs.declared.numbered.Numbered.{Numbered}
 
 -- the growing set of numbered futures, the entries, and how many entries had a place when the queue was made
@@ -52,17 +51,3 @@ module _ {F A S : Type 0} (polled : ℕ → F → Poll A → F → Type 0) where
   -- some future may give this output, with this number
   abbrev pub GrowingMayGive : Growing (Numbered F) S → ℕ × A → Type 0
   GrowingMayGive set = AnyGroupMayGive (PollsNumbered polled) set.groups.listed
-
--- what the growing set is to a queue over it
-abbrev pub growing_numbers : {F S W : Type 0} → ReadySourceOf S W → (ℕ → S → Type 0)
-    → NumberedSetOf (Growing (Numbered F) S) F
-growing_numbers source made = record {
-  count = held_in_groups;
-  with_number = held_in_groups_with;
-  pushes = GrowingPushesNumber source.marks made;
-  may_refuse = SetMayRefuse;
-  refuses = SetRefuses;
-  keeps = SameLimit;
-  takes = λ _. ⊤;
-  is_fit = λ _. ⊤;
-}

@@ -1,14 +1,13 @@
 -- What a contract sees of a bounded ordered queue: the words on ordered queues, for a bounded set.
 use Rattle.futures_buffered_ordered.specs.Below.{FoldsTo, Context, Poll, Ready, Pending, slot_count, Woke, Bounded}
 use Rattle.futures_buffered_ordered.specs.Below.{IsNewSet, Pushes, held_in, slots_in, PollOneOf, PollsBounded}
-use Rattle.std.specs.Prelude.{◌≡◌, ℕ, ◌+◌, ◌*◌, ◌<◌, ◌≤◌, List, [], ◌∷◌, length, Option, Some, None, ⊤}
+use Rattle.std.specs.Prelude.{◌≡◌, ℕ, ◌+◌, ◌*◌, ◌<◌, ◌≤◌, List, [], ◌∷◌, length, Option}
 use Rattle.futures_buffered_unordered.specs.Held.{AllHeld, AnyMayGive}
 use Rattle.futures_buffered_core.specs.declared.ready_source.ReadySource.{Ghosts as ReadySourceOf}
 use Rattle.futures_buffered_unordered.specs.StreamAnswers.{OfSomeTask}
-use Rattle.futures_buffered_ordered.specs.Numbered.{CanPollFuture, NumberedPollsOf, PollsNumbered, held_with}
-use Rattle.futures_buffered_ordered.specs.Numbered.{of_numbered}
+use Rattle.futures_buffered_ordered.specs.Numbered.{CanPollFuture, NumberedPollsOf, PollsNumbered, of_numbered}
 use Rattle.futures_buffered_ordered.specs.OrderedEntries.{Ordered, IsNewQueue, AddsEachBack, BesideTask, LastStep}
-use Rattle.futures_buffered_ordered.specs.OrderedEntries.{NumberedSetOf, PollsOrdered, SetYields, with_task}
+use Rattle.futures_buffered_ordered.specs.OrderedEntries.{PollsOrdered, SetYields, with_task}
 use Rattle.futures_buffered_ordered.specs.declared.numbered.Numbered.{Numbered}
 
 -- the bounded set of numbered futures, the entries, and how many entries had a place when the queue was made
@@ -63,19 +62,6 @@ module _ {F A S : Type 0} (polled : ℕ → F → Poll A → F → Type 0) where
   abbrev pub SetMayGive : Bounded (Numbered F) S → ℕ × A → Type 0
   SetMayGive set = AnyMayGive (PollsNumbered polled) set.slots
 
--- what the bounded set is to a queue over it
-abbrev pub bounded_numbers : {F S W : Type 0} → ReadySourceOf S W → NumberedSetOf (Bounded (Numbered F) S) F
-bounded_numbers source = record {
-  count = held_in;
-  with_number = held_with;
-  pushes = PushesNumber source.marks;
-  may_refuse = SetIsFull;
-  refuses = SetIsFull;
-  keeps = SameSize;
-  takes = λ _. ⊤;
-  is_fit = λ _. ⊤;
-}
-
 module _ {R F W A S : Type 0} (rule : PollOneOf R F W A) (source : ReadySourceOf S W) where
   -- how the set of a queue is polled, if `rule` says how one future is polled
   abbrev pub bounded_polls : NumberedPollsOf (Bounded (Numbered F) S) R A
@@ -95,29 +81,20 @@ module _ {R F W A S : Type 0} (rule : PollOneOf R F W A) (source : ReadySourceOf
       → Context → Context → Type 0
   PollsOrderedBounded = PollsOrdered held_in SameSize bounded_polls
 
-  -- how many ready slots one poll of the set took
-  abbrev pub names_taken : (old : Bounded (Numbered F) S) (answer : Poll (Option (ℕ × A)))
-      (new : Bounded (Numbered F) S) (cx left : Context)
-      → PollsBounded (of_numbered rule) source old answer new cx left → ℕ
-  names_taken old (Ready None) new cx left poll = 0
-  names_taken old (Ready (Some out)) new cx left poll = length poll.gave.1.2.takes.names + 1
-  names_taken old Pending new cx left poll = length poll.gave.1.takes.names
-
   -- how many ready slots were taken by the polls of the set that returned an output each
   abbrev pub names_of_row : (old : Ordered (Bounded (Numbered F) S × Context) A)
       (row : List (ℕ × A)) (new : Ordered (Bounded (Numbered F) S × Context) A)
       → FoldsTo (SetYields (BesideTask (PollsBounded (of_numbered rule) source))) old row new → ℕ
   names_of_row old [] new row = 0
   names_of_row old (out ∷ outs) new row =
-      names_taken old.set.0 (Ready (Some out)) row.0.set.0 old.set.1 row.0.set.1 row.1.gave
-      + names_of_row row.0 outs new row.2
+      length row.1.gave.gave.1.2.takes.names + 1 + names_of_row row.0 outs new row.2
 
   -- how many ready slots the last step took; 0 if it did not poll the set
   abbrev pub names_of_last : (old : Ordered (Bounded (Numbered F) S × Context) A)
       (answer : Poll (Option A)) (new : Ordered (Bounded (Numbered F) S × Context) A)
       → LastStep (BesideTask (PollsBounded (of_numbered rule) source)) old answer new → ℕ
   names_of_last old (Ready _) new step = 0
-  names_of_last old Pending new step = names_taken old.set.0 Pending new.set.0 old.set.1 new.set.1 step.1
+  names_of_last old Pending new step = length step.1.gave.1.takes.names
 
   -- each poll takes at most `limit` ready slots for each future that is in progress as the poll begins
   abbrev pub TakesFewNames : Type 0

@@ -3,5 +3,4 @@ pub mod Numbered
 pub mod OrderedEntries
 pub mod OrderedEntriesInvariant
 pub mod FuturesOrderedBounded
-pub mod FuturesOrderedBoundedInvariant
 pub mod FuturesOrdered

@@ -1,6 +1,6 @@
 -- The invariant by which an ordered queue finds the entry of a future: what its numbers are, and what its calls require
 -- and keep of them. The contracts of `OrderedEntries` cite it, and the contracts of the queues do not.
-use Rattle.std.specs.Prelude.{◌≡◌, ℕ, ◌+◌, ◌^◌, ◌%◌, List, [], ◌∷◌, Option, Some, None, count_by}
+use Rattle.std.specs.Prelude.{◌≡◌, ℕ, ◌+◌, ◌^◌, ◌%◌, ◌<◌, ◌≤◌, List, [], ◌∷◌, Option, Some, None, count_by}
 use Rattle.futures_buffered_ordered.specs.OrderedEntries.{Entry, Kept, Ordered, Running, is_running, runs_with}
 
 module _ {A : Type 0} where
@@ -28,3 +28,10 @@ pub record AddingKeeps {Q A : Type 0} (with_number : ℕ → Q → ℕ) (count :
   pub room : new.room ≡ old.room
   -- the set holds the futures of the entries in progress
   pub numbered : IsNumbered with_number count new
+
+-- The invariant of a queue: the set holds the futures of the entries in progress. The list was made with the places of
+-- the set, of which there are fewer than 2^62.
+pub record KeepsQueue {Q A : Type 0} (with_number : ℕ → Q → ℕ) (count places : Q → ℕ) (q : Ordered Q A) : Type 0 where
+  pub numbered : IsNumbered with_number count q
+  pub fits : places q.set ≤ q.room
+  pub small : places q.set < 2 ^ 62

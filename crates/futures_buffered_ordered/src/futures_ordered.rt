@@ -1,27 +1,23 @@
-//! A queue of any number of futures in progress, which yields outputs in the order of its entries.
-//!
-//! The futures are in a set that grows by groups. Each has an entry in a list, to which a push adds at either end. A
-//! poll yields the output of the front alone: an output that comes before its turn is kept in its entry.
+//! The ordered queue of any number of futures in progress, over a set that grows by groups.
 ghost use Rattle.futures_buffered_ordered.specs.Below.{IsFiniteSource, items_of, Extends};
-ghost use Rattle.std.specs.Prelude.{◌≡◌, ◌↔◌, ◌≤◌, [], length, IsTrue};
+ghost use Rattle.std.specs.Prelude.{◌≡◌, ◌↔◌, ◌≤◌, [], IsTrue};
 ghost use Rattle.futures_buffered_core.specs.Made.{MakesGroup};
 ghost use Rattle.futures_buffered_core.specs.ReadyShared.{IsNewShared};
 ghost use Rattle.futures_buffered_unordered.specs.FuturesUnordered.{AnyNeeds, SetMayRefuse, SetRefuses, no_groups};
 ghost use Rattle.futures_buffered_unordered.specs.PollsGrowing.{PollsGrowing};
-ghost use Rattle.futures_buffered_ordered.specs.OrderedEntries.{AddsBack, AddsFront, AddsOrStays, IsLength};
-ghost use Rattle.futures_buffered_ordered.specs.OrderedEntries.{PushesOrHandsBack, QueueIsAtBound, PollsOrdered};
-ghost use Rattle.futures_buffered_ordered.specs.OrderedEntries.{RefusesOne, without_entries};
-ghost use Rattle.futures_buffered_ordered.specs.FuturesOrdered.{EachInProgress, GrowingPushesNumber, IsNewGrowingQueue};
-ghost use Rattle.futures_buffered_ordered.specs.FuturesOrdered.{SameLimit, growing_numbers, held_in_groups};
-ghost use Rattle.futures_buffered_ordered.specs.FuturesOrdered.{held_in_groups_with, MakesSharedQueue};
 ghost use Rattle.futures_buffered_ordered.specs.Numbered.{of_numbered};
+ghost use Rattle.futures_buffered_ordered.specs.OrderedEntries.{AddsBack, AddsFront, AddsOrStays, PushesOrHandsBack};
+ghost use Rattle.futures_buffered_ordered.specs.OrderedEntries.{QueueIsAtBound, RefusesOne, without_entries};
+ghost use Rattle.futures_buffered_ordered.specs.FuturesOrdered.{EachInProgress, GrowingMayGive, GrowingPushesNumber};
+ghost use Rattle.futures_buffered_ordered.specs.FuturesOrdered.{IsNewGrowingQueue, MakesSharedQueue};
 
 use crate::numbered::{Numbered, PollNumbered};
 use crate::numbered_polls::NumberedPolls;
-use crate::numbered_set::{NumberedSet, PollNumberedSet};
+use crate::numbered_queue::NumberedQueue;
+use crate::numbered_set::{NumberedSet, PollNumberedSet, StreamedSet};
 use crate::ordered_entries::{MAX_LEN, OrderedEntries};
 use futures::task::{Context, Poll};
-use futures_buffered_core::ready_core::{MAX_CAPACITY, NewFault};
+use futures_buffered_core::ready_core::NewFault;
 use futures_buffered_core::ready_shared::{SharedReady, SharedWaker};
 use futures_buffered_core::ready_source::{NewSource, ReadySource};
 use futures_buffered_unordered::futures_unordered::{FIRST_GROUP, FuturesUnordered};
@@ -29,7 +25,7 @@ use futures_buffered_unordered::futures_unordered_bounded::POLL_LIMIT;
 use futures_buffered_unordered::poll_one::PollOne;
 use futures_buffered_unordered::slot_future::SlotFuture;
 use std::alloc::Global;
-use std::marker::Model;
+use std::fmt;
 
 impl<T: Drop, S: NewSource> NumberedSet for FuturesUnordered<Numbered<T>, S> {
     ghost use Rattle.std.proofs.Common.{◌≡◌, OnOk, OnErr, IfErr, IsErr, refl, ◌∙◌};
@@ -74,6 +70,8 @@ impl<T: Drop, S: NewSource> NumberedSet for FuturesUnordered<Numbered<T>, S> {
     ghost keeps_self = { λ a. refl };
 
     ghost keeps_on = { λ a b c first then. then ∙ first };
+
+    ghost keeps_places = { λ a b kept. refl };
 }
 
 impl<T: Drop, S: NewSource, R: PollOne<T, S::Waker>> NumberedPolls<R>
@@ -98,55 +96,34 @@ impl<T: Drop, S: NewSource, R: PollOne<T, S::Waker>> PollNumberedSet<R>
     }
 }
 
-/// Any number of futures, whose outputs come in the order of a list, with additions at both ends.
-///
-/// A contract sees the set that holds the futures in progress, each with a number, and the entries from the front to
-/// the back. An entry in progress has the number of its future. Of a number the contract says only which entry and
-/// which future have it. The contract also sees how many entries had a place when the queue was made.
-///
-/// A push, keeping an output, yielding it, and calls that only count take the same time at any length and any number of
-/// groups. If a push finds as many entries as places, the list grows. If the last group is full, the set grows. Over
-/// many pushes that is the same time for each. No call waits for another thread.
-#[derive(Drop)]
-pub struct GrowingQueue<T: Drop, A: Drop, S: NewSource> {
-    queue: OrderedEntries<FuturesUnordered<Numbered<T>, S>, A>,
+impl<T: SlotFuture<S::Waker>, S: NewSource> StreamedSet for FuturesUnordered<Numbered<T>, S> {
+    ghost use Rattle.futures_buffered_unordered.specs.PollsBounded.{itself};
+    ghost use Rattle.futures_buffered_unordered.proofs.FuturesUnorderedStreamLemmas.{gave, still};
+
+    ghost may_give = { GrowingMayGive T.polled };
+
+    ghost came = { λ old new out cx left poll.
+        gave (of_numbered (itself T.SlotFuture)) S.ReadySource.own old.groups new.groups cx left out poll.groups.gave };
+
+    ghost narrows = { λ old new answer cx left poll out.
+        still (of_numbered (itself T.SlotFuture)) S.ReadySource.own old.groups new.groups cx left answer poll.groups.gave out };
 }
 
-/// The queue of futures with their own outputs. It is the name that a caller writes.
+/// A queue over a growing set, for outputs of a type `A`.
+pub type GrowingQueue<T, A, S> = NumberedQueue<FuturesUnordered<Numbered<T>, S>, A>;
+
+/// Any number of futures, whose outputs come in the order of a list. It is the name that a caller writes;
+/// `NumberedQueue` says what a contract sees.
+///
+/// A call takes the same time at any number of groups, if it does so at any length. If the last group is full, a push
+/// makes the set grow. Over many pushes that is the same time for each. A poll does not allocate.
 pub type FuturesOrdered<T, S = SharedReady> = GrowingQueue<
     T,
     <T as SlotFuture<<S as ReadySource>::Waker>>::Output,
     S,
 >;
 
-impl<T: Drop, A: Drop, S: NewSource> Model for GrowingQueue<T, A, S> {
-    ghost use Rattle.futures_buffered_ordered.specs.OrderedEntriesInvariant.{IsNumbered};
-    ghost use Rattle.futures_buffered_ordered.specs.FuturesOrdered.{OrderedGrowing, held_in_groups};
-    ghost use Rattle.futures_buffered_ordered.specs.FuturesOrdered.{held_in_groups_with};
-
-    ghost Value = { OrderedGrowing T A S };
-
-    ghost view = { λ q. q.queue };
-
-    ghost invariant = { λ q. IsNumbered held_in_groups_with held_in_groups q.queue };
-}
-
 impl<T: Drop, A: Drop, S: NewSource> GrowingQueue<T, A, S> {
-    /// The number of entries, in progress and kept.
-    #[tactic(auto, using(crate::proofs::OrderedEntriesInvariantLemmas::is_length))]
-    pub fn len(&self) -> usize
-        ensures { IsLength held_in_groups_with held_in_groups self.now result }
-    {
-        self.queue.len()
-    }
-
-    /// Whether there is no entry.
-    pub fn is_empty(&self) -> bool
-        ensures { IsTrue result ↔ (length self.now.entries ≡ 0) }
-    {
-        self.queue.is_empty()
-    }
-
     /// How many ready slots one poll of the set takes from each group, at most. This limit never changes.
     pub fn limit(&self) -> usize
         ensures { result ≡ self.now.set.limit }
@@ -162,7 +139,7 @@ impl<T: Drop, A: Drop, S: NewSource> GrowingQueue<T, A, S> {
     /// full. Polls nothing. A caller should not count on a wake, but a push that makes a group may wake the task that
     /// waits.
     pub fn push_back(&mut self, future: T) -> Result<(), T>
-        ensures { PushesOrHandsBack AddsBack (growing_numbers S.ReadySource S.made)
+        ensures { PushesOrHandsBack AddsBack ⟦<FuturesUnordered<Numbered<T>, S> as NumberedSet>⟧
             self.old future result self.new }
     {
         self.queue.add_back(future)
@@ -170,7 +147,7 @@ impl<T: Drop, A: Drop, S: NewSource> GrowingQueue<T, A, S> {
 
     /// As `push_back`, before all others: the queue yields its output next.
     pub fn push_front(&mut self, future: T) -> Result<(), T>
-        ensures { PushesOrHandsBack AddsFront (growing_numbers S.ReadySource S.made)
+        ensures { PushesOrHandsBack AddsFront ⟦<FuturesUnordered<Numbered<T>, S> as NumberedSet>⟧
             self.old future result self.new }
     {
         self.queue.add_front(future)
@@ -179,7 +156,7 @@ impl<T: Drop, A: Drop, S: NewSource> GrowingQueue<T, A, S> {
     /// As `push_back`, for a caller that has no use for a future that is refused. Drops that future, does not change
     /// the queue, and returns the reason, so that `?` takes it.
     pub fn add_back(&mut self, future: T) -> Result<(), NewFault>
-        ensures { AddsOrStays AddsBack (growing_numbers S.ReadySource S.made)
+        ensures { AddsOrStays AddsBack ⟦<FuturesUnordered<Numbered<T>, S> as NumberedSet>⟧
             self.old future result self.new }
     {
         let Ok(()) = self.push_back(future) else {
@@ -190,7 +167,7 @@ impl<T: Drop, A: Drop, S: NewSource> GrowingQueue<T, A, S> {
 
     /// As `add_back`, before all others: the queue yields its output next.
     pub fn add_front(&mut self, future: T) -> Result<(), NewFault>
-        ensures { AddsOrStays AddsFront (growing_numbers S.ReadySource S.made)
+        ensures { AddsOrStays AddsFront ⟦<FuturesUnordered<Numbered<T>, S> as NumberedSet>⟧
             self.old future result self.new }
     {
         let Ok(()) = self.push_front(future) else {
@@ -221,27 +198,6 @@ impl<T: Drop, A: Drop, S: NewSource> GrowingQueue<T, A, S> {
         self.queue.drop_entries();
     }
 
-    /// Polls the queue once; `rule` says how one held future is polled.
-    ///
-    /// Returns `Ready(None)` if there is no entry. If the front's output is kept, removes the front and returns its
-    /// output, without a poll of the set. Otherwise polls the set again and again, and keeps each output in its entry,
-    /// until the front's output has come or the set returns `Pending`. Then returns the front's output, or `Pending`.
-    ///
-    /// Does not allocate. Takes the time of the set's polls. There is at most one more of these polls than outputs that
-    /// they return.
-    pub fn poll_with<R: PollOne<T, S::Waker, Output = A>>(
-        &mut self,
-        rule: &R,
-        cx: &mut Context<'_>,
-    ) -> Poll<Option<A>>
-        requires { EachInProgress R.can_poll self.old.set }
-        ensures { PollsOrdered held_in_groups SameLimit
-            ⟦<FuturesUnordered<Numbered<T>, S> as NumberedPolls<R>>⟧
-            self.old result self.new cx.old cx.new }
-    {
-        self.queue.poll_entries(rule, cx)
-    }
-
     /// Whether the queue takes no more futures: it has `MAX_LEN` entries, or its set is at its bound. A push fails
     /// then, and otherwise only if an allocation fails.
     pub fn is_at_bound(&self) -> bool
@@ -259,6 +215,13 @@ impl<T: Drop, A: Drop, S: NewSource> GrowingQueue<T, A, S> {
         } else {
             NewFault::Memory
         }
+    }
+}
+
+/// Prints the name alone.
+impl<T: Drop, A: Drop, S: NewSource> fmt::Debug for GrowingQueue<T, A, S> {
+    fn fmt<W: fmt::Write>(&self, f: &mut fmt::Formatter<W>) -> fmt::Result {
+        f.write_str("FuturesOrdered { ... }")
     }
 }
 
@@ -281,7 +244,7 @@ impl<T: SlotFuture<S::Waker, Output = A>, A: Drop, S: NewSource> GrowingQueue<T,
     {
         let set = FuturesUnordered::over_limit(env, alloc, n, limit)?;
         let queue = OrderedEntries::with_room(alloc, set, n)?;
-        Ok(GrowingQueue { queue })
+        Ok(NumberedQueue { queue })
     }
 }
 
@@ -291,7 +254,7 @@ impl<T: SlotFuture<SharedWaker, Output = A>, A: Drop> GrowingQueue<T, A, SharedR
         ensures set { result.set ≡ no_groups POLL_LIMIT }
         ensures entries { result.entries ≡ [] }
     {
-        GrowingQueue {
+        NumberedQueue {
             queue: OrderedEntries::new(alloc, FuturesUnordered::new(alloc)),
         }
     }

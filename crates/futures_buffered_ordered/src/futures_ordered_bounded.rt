@@ -1,23 +1,20 @@
-//! A queue of as many futures in progress as it has slots, which yields outputs in the order of its entries.
-//!
-//! The futures are in a bounded set. Each has an entry in a list, to which a push adds at either end. A poll yields the
-//! output of the front alone: an output that comes before its turn is kept in its entry.
+//! The ordered queue of as many futures in progress as it has slots, over a bounded set.
 ghost use Rattle.futures_buffered_ordered.specs.Below.{IsFiniteSource, items_of, slot_count, emptied, held_in};
 ghost use Rattle.futures_buffered_ordered.specs.Below.{slots_in, Extends, MakesFull, PollsBounded};
 ghost use Rattle.std.specs.Prelude.{◌≡◌, ◌↔◌, ◌<◌, ◌≤◌, length, IsOk, IsTrue};
 ghost use Rattle.futures_buffered_core.specs.Made.{MakesSlots};
 ghost use Rattle.futures_buffered_core.specs.ReadyShared.{IsNewShared, MarksShared};
-ghost use Rattle.futures_buffered_ordered.specs.Numbered.{held_with, of_numbered};
-ghost use Rattle.futures_buffered_ordered.specs.OrderedEntries.{AddsBack, AddsFront, IsLength, PushesOrHandsBack};
-ghost use Rattle.futures_buffered_ordered.specs.OrderedEntries.{PollsOrdered, RefusesOne, without_entries};
+ghost use Rattle.futures_buffered_ordered.specs.Numbered.{of_numbered};
+ghost use Rattle.futures_buffered_ordered.specs.OrderedEntries.{AddsBack, AddsFront, PushesOrHandsBack, RefusesOne};
+ghost use Rattle.futures_buffered_ordered.specs.OrderedEntries.{without_entries};
 ghost use Rattle.futures_buffered_ordered.specs.FuturesOrderedBounded.{EachRunning, HoldsInOrder, IsNewBoundedQueue};
 ghost use Rattle.futures_buffered_ordered.specs.FuturesOrderedBounded.{PushesEntry, PushesNumber, QueueIsFull};
-ghost use Rattle.futures_buffered_ordered.specs.FuturesOrderedBounded.{SameSize, SetIsFull, TakesFewNames};
-ghost use Rattle.futures_buffered_ordered.specs.FuturesOrderedBounded.{bounded_numbers};
+ghost use Rattle.futures_buffered_ordered.specs.FuturesOrderedBounded.{SetIsFull, SetMayGive, TakesFewNames};
 
 use crate::numbered::{Numbered, PollNumbered};
 use crate::numbered_polls::NumberedPolls;
-use crate::numbered_set::{NumberedSet, PollNumberedSet};
+use crate::numbered_queue::NumberedQueue;
+use crate::numbered_set::{NumberedSet, PollNumberedSet, StreamedSet};
 pub use crate::ordered_entries::MAX_LEN;
 use crate::ordered_entries::OrderedEntries;
 use futures::task::{Context, Poll};
@@ -28,12 +25,12 @@ use futures_buffered_unordered::futures_unordered_bounded::{FuturesUnorderedBoun
 use futures_buffered_unordered::poll_one::PollOne;
 use futures_buffered_unordered::slot_future::SlotFuture;
 use std::alloc::Global;
-use std::marker::Model;
+use std::fmt;
 
 impl<T: Drop, S: ReadySource> NumberedSet for FuturesUnorderedBounded<Numbered<T>, S> {
     ghost use Rattle.std.proofs.Common.{◌≡◌, OnOk, OnErr, IfErr, IsErr, refl, ◌∙◌};
     ghost use Rattle.std.specs.Prelude.{⊤};
-    ghost use Rattle.futures_buffered_unordered.specs.FuturesUnorderedBounded.{held_in};
+    ghost use Rattle.futures_buffered_unordered.specs.FuturesUnorderedBounded.{held_in, slots_in};
     ghost use Rattle.futures_buffered_ordered.specs.Numbered.{PushesInto, held_with};
     ghost use Rattle.futures_buffered_ordered.specs.FuturesOrderedBounded.{PushesNumber, SameSize, SetIsFull};
 
@@ -55,6 +52,8 @@ impl<T: Drop, S: ReadySource> NumberedSet for FuturesUnorderedBounded<Numbered<T
 
     ghost is_fit = { λ _. ⊤ };
 
+    ghost places = { slots_in };
+
     fn refuses_all(&self) -> bool {
         self.len() == self.capacity()
     }
@@ -75,6 +74,8 @@ impl<T: Drop, S: ReadySource> NumberedSet for FuturesUnorderedBounded<Numbered<T
       capacity = then.capacity ∙ first.capacity;
       limit = then.limit ∙ first.limit;
     } };
+
+    ghost keeps_places = { λ a b kept. kept.capacity };
 }
 
 impl<T: Drop, S: ReadySource, R: PollOne<T, S::Waker>> NumberedPolls<R>
@@ -99,54 +100,35 @@ impl<T: Drop, S: ReadySource, R: PollOne<T, S::Waker>> PollNumberedSet<R>
     }
 }
 
-/// Futures whose outputs come in the order of a list, with additions at both ends.
-///
-/// A contract sees the set that holds the futures in progress, each with a number, and the entries from the front to
-/// the back. An entry in progress has the number of its future. The contract also sees how many entries had a place
-/// when the queue was made. A kept output occupies no slot, so `len` may exceed `capacity`.
-///
-/// A push, keeping an output, yielding it, and calls that only count take the same time at any length. If a push finds
-/// as many entries as places, the list grows, which over many pushes is the same time for each. No call waits for
-/// another thread.
-#[derive(Drop)]
-pub struct BoundedQueue<T: Drop, A: Drop, S: ReadySource> {
-    queue: OrderedEntries<FuturesUnorderedBounded<Numbered<T>, S>, A>,
+impl<T: SlotFuture<S::Waker>, S: ReadySource> StreamedSet
+    for FuturesUnorderedBounded<Numbered<T>, S> {
+    ghost use Rattle.futures_buffered_unordered.specs.PollsBounded.{itself};
+    ghost use Rattle.futures_buffered_unordered.proofs.FuturesUnorderedBoundedLemmas.{poll_gave, poll_still};
+
+    ghost may_give = { SetMayGive T.polled };
+
+    ghost came = { λ old new out cx left poll.
+        poll_gave (of_numbered (itself T.SlotFuture)) S.ReadySource.own old new out cx left poll };
+
+    ghost narrows = { λ old new answer cx left poll out.
+        poll_still (of_numbered (itself T.SlotFuture)) S.ReadySource.own old new out answer cx left poll };
 }
 
-/// The queue of futures with their own outputs. It is the name that a caller writes.
+/// A queue over a bounded set, for outputs of a type `A`.
+pub type BoundedQueue<T, A, S> = NumberedQueue<FuturesUnorderedBounded<Numbered<T>, S>, A>;
+
+/// As many futures in progress as there are slots, whose outputs come in the order of a list. It is the name that a
+/// caller writes; `NumberedQueue` says what a contract sees.
+///
+/// A kept output occupies no slot, so `len` may exceed `capacity`. A poll does not allocate. It takes at most `limit`
+/// ready slots for each future in progress, and the time of the polls of what these slots hold.
 pub type FuturesOrderedBounded<T, S = SharedReady> = BoundedQueue<
     T,
     <T as SlotFuture<<S as ReadySource>::Waker>>::Output,
     S,
 >;
 
-impl<T: Drop, A: Drop, S: ReadySource> Model for BoundedQueue<T, A, S> {
-    ghost use Rattle.futures_buffered_ordered.specs.FuturesOrderedBounded.{OrderedBounded};
-    ghost use Rattle.futures_buffered_ordered.specs.FuturesOrderedBoundedInvariant.{KeepsBoundedQueue};
-
-    ghost Value = { OrderedBounded T A S };
-
-    ghost view = { λ q. q.queue };
-
-    ghost invariant = { λ q. KeepsBoundedQueue q.queue };
-}
-
 impl<T: Drop, A: Drop, S: ReadySource> BoundedQueue<T, A, S> {
-    /// The number of entries, in progress and kept.
-    #[tactic(auto, using(crate::proofs::FuturesOrderedBoundedLemmas::bounded_length))]
-    pub fn len(&self) -> usize
-        ensures { IsLength held_with held_in self.now result }
-    {
-        self.queue.len()
-    }
-
-    /// Whether there is no entry.
-    pub fn is_empty(&self) -> bool
-        ensures { IsTrue result ↔ (length self.now.entries ≡ 0) }
-    {
-        self.queue.is_empty()
-    }
-
     /// The number of slots, which never changes.
     pub fn capacity(&self) -> usize
         ensures { result ≡ slot_count self.now.set.slots }
@@ -188,7 +170,7 @@ impl<T: Drop, A: Drop, S: ReadySource> BoundedQueue<T, A, S> {
     /// fails. Allocates only if there are as many entries as places for them. There are never fewer places than slots,
     /// so a push succeeds if `len` is below `capacity`. Polls nothing, and wakes no task.
     pub fn try_push_back(&mut self, future: T) -> Result<(), T>
-        ensures push { PushesOrHandsBack AddsBack (bounded_numbers S.ReadySource)
+        ensures push { PushesOrHandsBack AddsBack ⟦<FuturesUnorderedBounded<Numbered<T>, S> as NumberedSet>⟧
             self.old future result self.new }
         ensures room { length self.old.entries < slot_count self.old.set.slots → IsOk result }
     {
@@ -197,7 +179,7 @@ impl<T: Drop, A: Drop, S: ReadySource> BoundedQueue<T, A, S> {
 
     /// As `try_push_back`, before all others: the queue yields its output next.
     pub fn try_push_front(&mut self, future: T) -> Result<(), T>
-        ensures push { PushesOrHandsBack AddsFront (bounded_numbers S.ReadySource)
+        ensures push { PushesOrHandsBack AddsFront ⟦<FuturesUnorderedBounded<Numbered<T>, S> as NumberedSet>⟧
             self.old future result self.new }
         ensures room { length self.old.entries < slot_count self.old.set.slots → IsOk result }
     {
@@ -249,27 +231,12 @@ impl<T: Drop, A: Drop, S: ReadySource> BoundedQueue<T, A, S> {
         self.queue.set.clear();
         self.queue.drop_entries();
     }
+}
 
-    /// Polls the queue once; `rule` says how one held future is polled.
-    ///
-    /// Returns `Ready(None)` if there is no entry. If the front's output is kept, removes the front and returns its
-    /// output, without a call of the source. Otherwise polls the set again and again, and keeps each output in its
-    /// entry, until the front's output has come or the set returns `Pending`. Then returns the front's output, or
-    /// `Pending`.
-    ///
-    /// Does not allocate. Takes at most `limit` ready slots for each future in progress, and the time of the polls of
-    /// what these slots hold.
-    pub fn poll_with<R: PollOne<T, S::Waker, Output = A>>(
-        &mut self,
-        rule: &R,
-        cx: &mut Context<'_>,
-    ) -> Poll<Option<A>>
-        requires { EachRunning R.can_poll self.old.set }
-        ensures { PollsOrdered held_in SameSize
-            ⟦<FuturesUnorderedBounded<Numbered<T>, S> as NumberedPolls<R>>⟧
-            self.old result self.new cx.old cx.new }
-    {
-        self.queue.poll_entries(rule, cx)
+/// Prints the name alone.
+impl<T: Drop, A: Drop, S: ReadySource> fmt::Debug for BoundedQueue<T, A, S> {
+    fn fmt<W: fmt::Write>(&self, f: &mut fmt::Formatter<W>) -> fmt::Result {
+        f.write_str("FuturesOrderedBounded { ... }")
     }
 }
 
@@ -297,7 +264,7 @@ impl<T: SlotFuture<S::Waker, Output = A>, A: Drop, S: NewSource> BoundedQueue<T,
     {
         let set = FuturesUnorderedBounded::with_new_source(env, alloc, n, limit)?;
         let queue = OrderedEntries::with_room(alloc, set, n)?;
-        Ok(BoundedQueue { queue })
+        Ok(NumberedQueue { queue })
     }
 }
 

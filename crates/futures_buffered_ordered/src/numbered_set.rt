@@ -5,6 +5,7 @@ ghost use Rattle.futures_buffered_ordered.specs.Numbered.{PollsNumberedSet, Push
 use crate::numbered::Numbered;
 use crate::numbered_polls::NumberedPolls;
 use futures::task::{Context, Poll};
+use futures_buffered_unordered::poll_one::PollFuture;
 
 /// A set that takes a number with each future.
 ///
@@ -37,6 +38,9 @@ pub trait NumberedSet: Drop {
     // The futures that may be pushed.
     ghost is_fit: { Self.Future → Type 0 };
 
+    // For how many entries a queue over the set has a place from the start. By default for none.
+    ghost places: { Self → ℕ } = { λ _. 0 };
+
     /// Whether the set refuses each push, even if no allocation fails.
     fn refuses_all(&self) -> bool
         ensures { IsTrue result ↔ refuses self.now };
@@ -55,6 +59,8 @@ pub trait NumberedSet: Drop {
     ghost keeps_self: { (a : Self) → keeps a a };
 
     ghost keeps_on: { (a b c : Self) → keeps a b → keeps b c → keeps a c };
+
+    ghost keeps_places: { (a b : Self) → keeps a b → places b ≡ places a };
 }
 
 /// A numbered set that can be polled, under a rule that polls one held future, as its `NumberedPolls` says.
@@ -68,4 +74,24 @@ pub trait PollNumberedSet<R>: NumberedSet + NumberedPolls<R> {
         requires { Self.can_poll self.old }
         ensures { PollsNumberedSet Self.NumberedPolls Self.count Self.with_number Self.keeps
             self.old result self.new cx.old cx.new };
+}
+
+/// A numbered set whose futures poll themselves (`PollFuture`), so that a queue over the set is a stream.
+pub trait StreamedSet: PollNumberedSet<PollFuture> {
+    ghost use Rattle.std.specs.Prelude.{Some};
+    ghost use Rattle.futures.specs.declared.task.Poll.{Poll};
+    ghost use Rattle.futures.specs.declared.task.Poll.TheVariants.{Ready};
+    ghost use Rattle.futures.specs.declared.task.context.Context.{Context};
+
+    // The set may give this output, with this number.
+    ghost may_give: { Self → ℕ × Self.Output → Type 0 };
+
+    // An output of a poll is one that the set might give before.
+    ghost came: { (old new : Self) (out : ℕ × Self.Output) (cx left : Context)
+        → Self.gives old (Ready (Some out)) new cx left → may_give old out };
+
+    // What the set may give after a poll it might give before.
+    ghost narrows: { (old new : Self) (answer : Poll (Option (ℕ × Self.Output))) (cx left : Context)
+        → Self.gives old answer new cx left
+        → (out : ℕ × Self.Output) → may_give new out → may_give old out };
 }

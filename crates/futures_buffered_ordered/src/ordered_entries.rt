@@ -189,7 +189,6 @@ impl<Q: NumberedSet, A: Drop> OrderedEntries<Q, A> {
         Ok(())
     }
 
-    #[tactic(auto, using(crate::proofs::OrderedEntriesLemmas::adds_one_more))]
     /// Adds each item at the back, in order, as `add_back` does. Returns the first item that is refused; the items
     /// before it stay, and no further item is taken from the iterator.
     pub fn extend<I: IntoIterator<Item = Q::Future>>(&mut self, iter: I) -> Result<(), Q::Future>

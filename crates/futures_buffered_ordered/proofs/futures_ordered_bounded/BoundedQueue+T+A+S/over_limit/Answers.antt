@@ -1,6 +1,6 @@
 use Rattle.futures_buffered_ordered.proofs.Common.{rules, ◌∙◌, ap, arith, Bounded, Numbered}
 use Rattle.futures_buffered_ordered.proofs.FuturesOrderedBoundedLemmas.{new_keeps}
-use Rattle.futures_buffered_ordered.proofs.futures_ordered_bounded.BoundedQueue.over_limit.Goals as goal
+use Rattle.futures_buffered_ordered.proofs.futures_ordered_bounded.BoundedQueue+T+A+S.over_limit.Goals as goal
 
 pub invariant_of-result : goal.invariant_of-result
 invariant_of-result g c =

@@ -1,4 +1,0 @@
-use Rattle.futures_buffered_ordered.proofs.futures_ordered_bounded.BoundedQueue.poll_with.Goals as goal
-
-pub returns : goal.returns
-returns g c = rw (← c.self.view_is) c.poll_entries.ensures.polls
