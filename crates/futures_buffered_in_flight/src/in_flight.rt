@@ -16,7 +16,7 @@ ghost use Rattle.futures_buffered_in_flight.specs.InFlightTurns.{Flies};
 ghost use Rattle.futures_buffered_in_flight.specs.declared.run.Run.{Run};
 ghost use Rattle.futures_buffered_in_flight.specs.declared.run.Waits.{Waits};
 
-use crate::bells::{Freed, Tables};
+use crate::bells::{Bells, Freed, Tables};
 use crate::run::{Key, Run, Waits};
 use futures::Future;
 use futures::stream::FuturesUnordered;
@@ -25,6 +25,7 @@ use futures_buffered_core::slot_map::PinSlotMap;
 use std::alloc::Global;
 use std::collections::VecDeque;
 use std::marker::{Model, PhantomData};
+use std::sync::Arc;
 
 /// What a slot keeps of its future: the caller's tag, and the number of the push.
 #[derive(Drop)]
@@ -252,22 +253,26 @@ impl<F: Future<Output: Drop>, T: Drop, K> FuturesUnorderedBy<F, T, K> {
         self.drop_all();
     }
 
-    // Makes the set of `futures` if there is none. Returns whether there is one.
-    fn make_running(&mut self) -> bool
+    // Returns the bells for the run of this push, and makes the set of `futures` if there is none. Returns `None` if
+    // that fails, and for the last number.
+    fn bells_for(&mut self, push: u64) -> Option<Arc<Bells>>
         ensures runs { (runs_in self.new.running ≡ runs_in self.old.running)
             × (run_count self.new.running ≡ run_count self.old.running) }
-        ensures some { IsTrue result → IsSome self.new.running }
+        ensures some { IfSome result (λ _. IsSome self.new.running × (push + 1 < 2 ^ 64)) }
         ensures slots { (self.new.slots ≡ self.old.slots) × (self.new.next ≡ self.old.next) }
         ensures room { (self.new.cancelled ≡ self.old.cancelled) × (self.new.waiting ≡ self.old.waiting) }
     {
+        if push == u64::MAX {
+            return None;
+        }
         if self.running.is_some() {
-            return true;
+            return self.bells.newest();
         }
         let Ok(running) = FuturesUnordered::new(self.alloc) else {
-            return false;
+            return None;
         };
         self.running = Some(running);
-        true
+        self.bells.newest()
     }
 
     // Pushes the future into the set of `futures`. Returns the future if that fails, and under the last number.
@@ -289,13 +294,7 @@ impl<F: Future<Output: Drop>, T: Drop, K> FuturesUnorderedBy<F, T, K> {
         ensures slots { (self.new.slots ≡ self.old.slots) × (self.new.next ≡ self.old.next) }
         ensures room { (self.new.cancelled ≡ self.old.cancelled) × (self.new.waiting ≡ self.old.waiting) }
     {
-        if value.key.push == u64::MAX {
-            return Err(value);
-        }
-        if !self.make_running() {
-            return Err(value);
-        }
-        let Some(bells) = self.bells.newest() else {
+        let Some(bells) = self.bells_for(value.key.push) else {
             return Err(value);
         };
         let Some(running) = &mut self.running else {
@@ -312,7 +311,7 @@ impl<F: Future<Output: Drop>, T: Drop, K> FuturesUnorderedBy<F, T, K> {
     }
 
     // Pushes the future into the set of `futures`, or the future waits. With the last number it waits permanently.
-    #[tactic(auto, using(crate::proofs::InFlightLemmas::flies, crate::proofs::InFlightLemmas::left_waiting))]
+    #[tactic(auto, using(crate::proofs::InFlightLemmas::flies))]
     pub(crate) fn start(&mut self, value: Waits<F>)
         requires held { AllPollable (λ (run : Run F). F.can_poll run.future) (runs_in self.old.running) }
         requires waits { AllByRecursion (λ (waits : Waits F). F.can_poll waits.future) self.old.waiting }
@@ -362,6 +361,7 @@ impl<F: Future<Output: Drop>, T: Drop, K> FuturesUnorderedBy<F, T, K> {
     /// In a bounded set, takes the same time at any capacity. In a growing set, takes time in proportion to the number
     /// of its tables of bells, one for each doubling. Wakes the task that polled the future last. After polls by two
     /// tasks, it may wake the earlier task alone. Another future may be woken too, and is then polled once more.
+    #[tactic(auto, using(crate::proofs::InFlightLemmas::same_can_poll))]
     pub fn cancel(&mut self, key: Key) -> Option<T>
         requires { CanPollAll F.Future self.old }
         ensures cancels { CancelsOrNone self.old key result self.new }

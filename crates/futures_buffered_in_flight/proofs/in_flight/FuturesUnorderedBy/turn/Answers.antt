@@ -1,4 +1,4 @@
-use Rattle.std.proofs.Common.{rules}
+use Rattle.futures_buffered_in_flight.proofs.Common.{rules}
 use Rattle.futures_buffered_in_flight.proofs.InFlightLemmas.{came_out, turned}
 use Rattle.futures_buffered_in_flight.proofs.in_flight.FuturesUnorderedBy.turn.Goals as goal
 
