@@ -155,6 +155,11 @@ module _ {F A : Type 0} (future : FutureOf F A) where
       let w = widens old wide made in
       record { each = wide_can_poll future old wide can.each made; none_cancelled = w.rest.0 ∙ can.none_cancelled; some = omega (arith, w.slots, can.some); bound = omega (arith, w.slots, w.counts is_some refl, can.bound) }
 
+  -- such a set may be polled, also if no room was made
+  pub still_can_queue : (old new : Flights F ℕ) (made : Bool) → CanPollQueue future old → (made ≡ true → MakesRoom old new) → (made ≡ false → HasNoRoom old × (new ≡ old)) → CanPollQueue future new
+  still_can_queue old new true can room none = wide_can_queue old new can (room refl)
+  still_can_queue old new false can room none = subst (λ s. CanPollQueue future s) (sym (none refl).1) can
+
   -- the set took a future with a number; it made a slot first if it grows and had no room
   pub taken : (grows : Bool) (old wide new : Flights F ℕ) (f : F) (number : ℕ) (key : Key) → (grows ≡ true → MakesRoom old wide) → (grows ≡ false → wide ≡ old) → CanPollQueue future wide → flight_count wide < flight_slots wide → EntersAt future wide f number key new → PushesInto (PushesQueued future grows) flight_count flights_with HasGrown old (record { future = f; number = number }) new
   taken grows old wide new f number key made same can room p =

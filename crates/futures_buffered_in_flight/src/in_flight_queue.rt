@@ -57,7 +57,7 @@ impl<F: Future<Output: Drop>, K> FuturesUnorderedBy<F, usize, K> {
 
 impl<F: Future<Output: Drop>, K: Kind> FuturesUnorderedBy<F, usize, K> {
     // Makes a slot if the set grows and is full. Returns whether a slot is free then.
-    #[tactic(auto, using(crate::proofs::InFlightQueueLemmas::may_refuse_grown, crate::proofs::InFlightQueueLemmas::may_refuse_bounded, crate::proofs::InFlightQueueLemmas::refuses_grown, crate::proofs::InFlightQueueLemmas::refuses_bounded, crate::proofs::InFlightQueueLemmas::wide_can_queue))]
+    #[tactic(auto, using(crate::proofs::InFlightQueueLemmas::may_refuse_grown, crate::proofs::InFlightQueueLemmas::may_refuse_bounded, crate::proofs::InFlightQueueLemmas::refuses_grown, crate::proofs::InFlightQueueLemmas::refuses_bounded, crate::proofs::InFlightQueueLemmas::still_can_queue))]
     fn make_slot_free(&mut self) -> bool
         requires { CanPollQueue F.Future self.old }
         ensures grown { IsTrue result → K.GROWS ≡ true → MakesRoom self.old self.new }
