@@ -1,23 +1,8 @@
 -- How items that an iterator gives go into a new set in flight, each in the slot of its place.
-use Rattle.std.proofs.Common.{◌≡◌, ◌≢◌, ◌<◌, ◌≤◌, ℕ, zero, suc, Bool, true, false, ◌+◌, ◌-◌, List, [], ◌∷◌, ◌++◌, length, get_or, Option, Some, None, All, refl, sym, ap, ap₂, subst, ◌∙◌, inl, inr, arith, length-set, slice_get}
-use Rattle.std.specs.List.{FoldsTo, range_with_len}
-use Rattle.std.specs.Prelude.{max}
+use Rattle.futures_buffered_in_flight.proofs.Common.{◌≡◌, ◌≢◌, ◌<◌, ◌≤◌, ℕ, zero, suc, Bool, true, false, ◌+◌, ◌-◌, List, [], ◌∷◌, ◌++◌, length, Option, Some, All, refl, sym, ap, ap₂, subst, ◌∙◌, inl, inr, arith, length-set, slice_get, FoldsTo, range_with_len, max, length-append, length_push, cases_eq, true≢false, same_Some, MAX_CAPACITY, Items, Draws, Slots, held_count, slot_count, Ordered, None-Some, FutureOf, Flights, CanPollAll, IsNewInFlight, SlotGives, EntersAt, FliesInOrder, flight_slots, room_taken, EntersBack, HoldsInTurn, IsNewInOrder, ordered_room, KeepsRoom, Place, Key}
 use Rattle.std.specs.Iterator.{Drains, YieldsThen}
-use Rattle.std.proofs.lemmas.List.{get_or-set_other, length-append, length-replicate, length_push}
-use Rattle.std.proofs.lemmas.Bool.{cases_eq, true≢false}
-use Rattle.std.proofs.lemmas.Option.{same_Some}
-use Rattle.futures_buffered_table.specs.declared.answer.TheConstants.{MAX_CAPACITY}
-use Rattle.futures_buffered_core.specs.Drawn.{Items, Draws}
-use Rattle.futures_buffered_core.specs.SlotMap.{Slots, value_in, held_count, slot_count}
-use Rattle.futures_buffered_ordered.specs.OrderedEntries.{Ordered}
 use Rattle.futures_buffered_unordered.specs.Extended.{EachDrawn}
-use Rattle.futures_buffered_unordered.proofs.HeldGivesLemmas.{None-Some}
-use Rattle.futures_buffered_in_flight.specs.InFlight.{FutureOf, Flights, CanPollAll, IsNewInFlight, MayCome, SlotGives, EntersAt, FliesInOrder, flight_slots, room_taken}
-use Rattle.futures_buffered_in_flight.specs.InFlightOrdered.{EntersBack, HoldsInTurn, IsNewInOrder, ordered_room}
-use Rattle.futures_buffered_in_flight.specs.InFlightQueue.{KeepsRoom}
-use Rattle.futures_buffered_in_flight.proofs.InFlightQueueLemmas.{its_place, none_held}
-use Rattle.futures_buffered_in_flight.specs.declared.in_flight.Place.{Place}
-use Rattle.futures_buffered_in_flight.specs.declared.run.Key.{Key}
+use Rattle.futures_buffered_in_flight.proofs.InFlightQueueLemmas.{held_after, new_count, new_slots}
 
 -- each of the items that came from an iterator is one that may come
 all_drawn : {S A : Type 0} (steps : S → Option A → S → Type 0) (P : A → Type 0) (it : S) (items : List A) → Drains steps it items
@@ -57,9 +42,9 @@ module _ {F O : Type 0} (future : FutureOf F O) where
   pub pushed_none : (n : ℕ) (set : Flights F (Unit {0})) → IsNewInFlight n set → CanPollAll future set → PushedSoFar n [] set
   pushed_none n set new can =
       record {
-        as_many = ap (λ (s : Slots (Place (Unit {0}))). slot_count s) new.0 ∙ length-replicate n None;
+        as_many = new_slots n set new;
         free = ap (λ (s : Slots (Place (Unit {0}))). s.free) new.0 ∙ ap (range_with_len 0) (omega arith);
-        all_wait = ap (λ (s : Slots (Place (Unit {0}))). held_count s) new.0 ∙ none_held (Place (Unit {0})) n;
+        all_wait = new_count n set new;
         own = λ k item x got h. absurd (None-Some got);
         none_cancelled = new.3;
         again = can;
@@ -71,14 +56,12 @@ module _ {F O : Type 0} (future : FutureOf F O) where
     where
       its_own : (k : ℕ) (x : O) → k ≡ key.slot → SlotGives future new k x → future.gives f x
       its_own k x same h =
-          let place : h.0 ≡ record { tag = tt; push = key.push } = same_Some _ _ (sym h.1 ∙ (ap (λ i. value_in new.slots i) same ∙ its_place future old new f tt key p)) in
-          let at : record { slot = k; push = h.0.push } ≡ key = ap₂ (λ (slot push : ℕ). record { slot = slot; push = push }) same (ap (λ (p : Place (Unit {0})). p.push) place) in
-          p.own x (subst (λ (key : Key). MayCome future new (key, Some x)) at h.2)
+          elim (held_after future old new f tt key p (record { slot = k; push = h.0.push }) h.0.tag x h.1 h.2) [ inl was ↦ absurd (was.0 same) | inr own ↦ own.2 ]
 
       others : (k : ℕ) (item : F) (x : O) → k ≢ key.slot → slice_get xs k ≡ Some item → SlotGives future new k x → future.gives item x
       others k item x other got h =
-          elim (p.others _ h.2) [
-            | inl was ↦ so.own k item x got (h.0, sym (get_or-set_other old.slots.places key.slot k _ None other) ∙ (sym (ap (λ ps. get_or ps k None) p.went_in.now_held) ∙ h.1), was)
+          elim (held_after future old new f tt key p (record { slot = k; push = h.0.push }) h.0.tag x h.1 h.2) [
+            | inl was ↦ so.own k item x got (h.0, was.1, was.2)
             | inr own ↦ absurd (other (ap (λ (key : Key). key.slot) own.0))
           ]
 
@@ -122,10 +105,6 @@ module _ {F O : Type 0} (future : FutureOf F O) where
       }
 
 module _ {F A : Type 0} where
-  -- as many as a new queue is made for can be held
-  pub new_room : (n : ℕ) (q : Ordered (Flights F ℕ) A) → IsNewInOrder n q → ordered_room q ≡ n
-  new_room n q new = ap (λ (s : Slots (Place ℕ)). slot_count s) new.new_set.0 ∙ length-replicate n None
-
   -- these items went into a new queue, one after another
   pub holds_in_turn : (future : FutureOf F A) (grows : Bool) (items : List F) (n : ℕ) (start q : Ordered (Flights F ℕ) A) → n ≡ length items → IsNewInOrder (max 1 n) start → FoldsTo (EntersBack future grows) start items q → length q.entries ≡ n → HoldsInTurn future grows items q
   holds_in_turn future grows items n start q is new pushed count =
@@ -134,7 +113,7 @@ module _ {F A : Type 0} where
   -- so a bounded queue has as many slots as the new queue
   pub few_slots : (grows : Bool) (n : ℕ) (start q : Ordered (Flights F ℕ) A) → IsNewInOrder n start → n ≤ MAX_CAPACITY → KeepsRoom grows start.set q.set → grows ≡ false → ordered_room q ≤ MAX_CAPACITY
   few_slots true n start q new few same bounded = absurd (true≢false bounded)
-  few_slots false n start q new few same bounded = omega (arith, new_room n start new, few, same)
+  few_slots false n start q new few same bounded = omega (arith, new_slots n start.set new.new_set, few, same)
 
   pub none_pushed : (n : ℕ) (q : Ordered (Flights F ℕ) A) → IsNewInOrder n q → length q.entries ≡ 0
   none_pushed n q new = ap length new.no_entries

@@ -1,28 +1,8 @@
 -- What may come from the kit's set, from the futures that wait and from the slots, and what each call leaves of the set.
-use Rattle.std.proofs.Common.{◌≡◌, ◌<◌, ◌≤◌, ℕ, ◌+◌, ◌-◌, ◌^◌, List, [], ◌∷◌, ◌++◌, Option, Some, None, IfSome, is_some, count_by, cond, length, length-set, zero, suc, Bool, true, false, ap, refl, sym, subst, ◌∙◌, ◌⊎◌, inl, inr, arith}
-use Rattle.std.specs.Prelude.{Ok, Err, min}
-use Rattle.std.specs.List.{AllByRecursion}
-use Rattle.std.proofs.lemmas.Bool.{cases_eq, false≢true}
-use Rattle.std.proofs.lemmas.List.Sums.{sum_by-cons}
-use Rattle.std.proofs.lemmas.List.{length_push}
+use Rattle.futures_buffered_in_flight.proofs.Common.{◌≡◌, ◌<◌, ◌≤◌, ℕ, ◌+◌, ◌-◌, ◌^◌, List, [], ◌∷◌, ◌++◌, Option, Some, None, IfSome, is_some, count_by, cond, get_or, length, length-set, zero, suc, Bool, true, false, ap, refl, sym, subst, ◌∙◌, ◌⊎◌, inl, inr, arith, Ok, Err, min, AllByRecursion, cases_eq, false≢true, sum_by-append, sum_by-cons, length_push, After, Within, AnyGives, AnyMay, Gathers, GivesNoMore, AllPollable, set_places, set_len, Poll, Ready, Pending, Covers, Keeps, IsArmed, Lasting, Context, Slots, value_in, held_count, with_slot_freed, Inserts, IsWoken, StreamAnswers, StreamOf, stream_of, answers_of, Gathers-Within, Gathers-After, value_in-with_slot_freed, value_in-with_slot_freed_other, None-Some, FutureOf, Flights, CanPollAll, ComesByKey, ComesFromSlots, EntersAt, FlightsGiveNoMore, FlightsWaitAt, GivesByKey, GivesWithKey, HasNoRoom, IsHeld, MakesRoom, MayCome, PollsInFlight, PushesInFlight, TagGives, WaitGives, flight_slots, room_taken, run_count, runs_in, without_key, Flies, Starts, Came, Place, Key, Run, Waits, AnySlotGives}
+use Rattle.futures.proofs.EventLemmas.{get_or-push_default}
 use Rattle.futures.proofs.SentLemmas.{AllByRecursion-push}
-use Rattle.futures.specs.Runs.{After, Within}
-use Rattle.futures.specs.Queued.{AnyGives, AnyMay, Gathers, GivesNoMore, AllPollable, set_places, set_len}
 use Rattle.futures.specs.declared.stream.futures_unordered.FuturesUnordered.{FuturesUnordered}
-use Rattle.futures.specs.declared.task.Poll.{Poll}
-use Rattle.futures.specs.declared.task.Poll.TheVariants.{Ready, Pending}
-use Rattle.futures.specs.Task.{Covers, Keeps, IsArmed, Lasting}
-use Rattle.futures.specs.declared.task.context.Context.{Context}
-use Rattle.futures_buffered_core.specs.SlotMap.{Slots, value_in, held_count, with_slot_freed, Inserts}
-use Rattle.futures_buffered_unordered.specs.FuturesUnorderedBounded.{IsWoken}
-use Rattle.futures_buffered_unordered.proofs.HeldGivesLemmas.{Gathers-Within, Gathers-After, value_in-with_slot_freed, value_in-with_slot_freed_other, None-Some}
-use Rattle.futures_buffered_in_flight.specs.InFlight.{FutureOf, Flights, CanPollAll, ComesByKey, ComesFromSlots, EntersAt, FlightsGiveNoMore, FlightsWaitAt, GivesByKey, GivesWithKey, HasNoRoom, IsHeld, IsUsedUp, MakesRoom, MayCome, PollsInFlight, PushesInFlight, TagGives, WaitGives, flight_slots, room_taken, run_count, runs_in}
-use Rattle.futures_buffered_in_flight.specs.InFlightTurns.{Flies, Starts}
-use Rattle.futures_buffered_in_flight.specs.declared.in_flight.Came.{Came}
-use Rattle.futures_buffered_in_flight.specs.declared.in_flight.Place.{Place}
-use Rattle.futures_buffered_in_flight.specs.declared.run.Key.{Key}
-use Rattle.futures_buffered_in_flight.specs.declared.run.Run.{Run}
-use Rattle.futures_buffered_in_flight.specs.declared.run.Waits.{Waits}
 
 -- what the futures that run, and those that wait, may give, and that they may be polled
 module _ {F A : Type 0} (future : FutureOf F A) where
@@ -70,28 +50,12 @@ module _ {A : Type 0} where
 pub none_pollable : {F : Type 0} (can_poll : F → Type 0) → AllPollable can_poll []
 none_pollable can_poll = tt
 
--- a task that was woken stays so
-woken_still : (asked left : Context) → Keeps asked left → IsWoken asked → IsWoken left
-woken_still asked left keeps woken source = keeps (Lasting.hears source) (woken source)
-
 module _ {F : Type 0} where
   pub started_still : (old new : List (Waits F)) (asked left : Context) → new ≡ old → Keeps asked left → ((old ≡ []) ⊎ IsWoken asked) → (new ≡ []) ⊎ IsWoken left
   started_still old new asked left same keeps (inl none) = inl (same ∙ none)
-  started_still old new asked left same keeps (inr woken) = inr (woken_still asked left keeps woken)
+  started_still old new asked left same keeps (inr woken) = inr (λ source. keeps (Lasting.hears source) (woken source))
 
--- a set that made room has made as many pushes as before
-pub used_still : {F T : Type 0} (old wide : Flights F T) → MakesRoom old wide → IsUsedUp old → IsUsedUp wide
-used_still old wide (inl same) used = let e = ap (λ (s : Flights _ _). s.next) same.1 in omega (arith, e, used)
-used_still old wide (inr made) used = omega (arith, made.1.rest.1, used)
-
-module _ {F A : Type 0} (future : FutureOf F A) where
-  any_push : (ws : List (Waits F)) (w : Waits F) (came : Key × Option A) → AnyWaitGives future (ws ++ w ∷ []) came → AnyWaitGives future ws came ⊎ WaitGives future w came
-  any_push [] w came (inl own) = inr own
-  any_push [] w came (inr none) = absurd none
-  any_push (v ∷ ws) w came (inl first) = inl (inl first)
-  any_push (v ∷ ws) w came (inr more) = elim (any_push ws w came more) [ inl was ↦ inl (inr was) | inr own ↦ inr own ]
-
-module _ {F A T : Type 0} (future : FutureOf F A) where
+module _ {F T : Type 0} where
   -- what a slot holds after a call, it held before
   abbrev pub NoNewPlace : Flights F T → Flights F T → Type 0
   NoNewPlace old new = (i : ℕ) (place : Place T) → value_in new.slots i ≡ Some place → value_in old.slots i ≡ Some place
@@ -107,8 +71,42 @@ module _ {F A T : Type 0} (future : FutureOf F A) where
         | inr other ↦ sym (value_in-with_slot_freed_other old.slots slot i other) ∙ after
       ]
 
+  -- what a set keeps while it makes room
+  pub record Widens (old wide : Flights F T) : Type 0 where
+    pub places : NoNewPlace old wide
+    pub counts : (marked : Option (Place T) → Bool) → marked None ≡ false → count_by marked wide.slots.places ≡ count_by marked old.slots.places
+    pub slots : flight_slots old ≤ flight_slots wide
+    pub futures : (wide.running ≡ old.running) × (wide.waiting ≡ old.waiting)
+    pub rest : (wide.cancelled ≡ old.cancelled) × (wide.next ≡ old.next)
+
+  pub widens_none : (s : Flights F T) → Widens s s
+  widens_none s = record { places = λ i place holds. holds; counts = λ marked none. refl; slots = omega arith; futures = (refl, refl); rest = (refl, refl) }
+
+  pub widens : (old wide : Flights F T) → MakesRoom old wide → Widens old wide
+  widens old wide (inl same) = subst (λ s. Widens old s) (sym same.1) (widens_none old)
+  widens old wide (inr made) = record {
+    places = λ i place holds. sym (ap (λ ps. get_or ps i None) made.1.slots.0 ∙ get_or-push_default old.slots.places None i) ∙ holds;
+    counts = λ marked none. ap (λ ps. count_by marked ps) made.1.slots.0 ∙ none_more old.slots.places marked none;
+    slots = let e = ap length made.1.slots.0 in omega (arith, e, length_push old.slots.places None);
+    futures = made.1.futures;
+    rest = made.1.rest;
+  }
+    where
+      none_more : (ps : List (Option (Place T))) (marked : Option (Place T) → Bool) → marked None ≡ false → count_by marked (ps ++ None ∷ []) ≡ count_by marked ps
+      none_more ps marked none =
+          let last : ◌≡◌ {A = ℕ} (cond (marked None) 1 0) 0 = ap (λ (b : Bool). cond b 1 0) none in
+          sum_by-append (λ (o : Option (Place T)). cond (marked o) 1 0) ps (None ∷ []) ∙ omega (arith, last)
+
+module _ {F A : Type 0} (future : FutureOf F A) where
+  any_push : (ws : List (Waits F)) (w : Waits F) (came : Key × Option A) → AnyWaitGives future (ws ++ w ∷ []) came → AnyWaitGives future ws came ⊎ WaitGives future w came
+  any_push [] w came (inl own) = inr own
+  any_push [] w came (inr none) = absurd none
+  any_push (v ∷ ws) w came (inl first) = inl (inl first)
+  any_push (v ∷ ws) w came (inr more) = elim (any_push ws w came more) [ inl was ↦ inl (inr was) | inr own ↦ inr own ]
+
+module _ {F A T : Type 0} (future : FutureOf F A) where
   -- what may come under a tag after a call, might before
-  tags_on : (old new : Flights F T) → NoNewPlace old new → FlightsGiveNoMore future old new → (out : T × A) → TagGives future new out → TagGives future old out
+  pub tags_on : (old new : Flights F T) → NoNewPlace old new → FlightsGiveNoMore future old new → (out : T × A) → TagGives future new out → TagGives future old out
   tags_on old new places narrows out h = (h.0, places h.0.slot _ h.1, narrows (h.0, Some out.1) h.2)
 
   pub polled_tags : (old new : Flights F T) (answer : Poll (Option (Came A T))) → GivesByKey future old answer new → FlightsGiveNoMore future old new → (out : T × A) → TagGives future new out → TagGives future old out
@@ -120,14 +118,19 @@ module _ {F A T : Type 0} (future : FutureOf F A) where
   pub came_under : (old new : Flights F T) (came : Came A T) → ComesByKey future old came new → TagGives future old (came.tag, came.output)
   came_under old new came y = (came.key, y.was_held, y.gave)
 
-  pub comes_within : (old new : Flights F T) → new.slots ≡ old.slots → FlightsGiveNoMore future old new → Within (ComesFromSlots future old) (ComesFromSlots future new)
-  comes_within old new same narrows = Gathers-Within (λ x h. (h.0, tags_on old new (same_places old new same) narrows (h.0, x) h.1)) (held_count old.slots) (held_count new.slots) (subst (λ s. held_count s ≡ held_count old.slots) (sym same) refl)
+  -- a poll without keys is one of a stream
+  abbrev as_stream : (Flights F T → Type 0) → StreamOf (Flights F T) A
+  as_stream can_poll = stream_of can_poll FlightsWaitAt (ComesFromSlots future)
 
-  pub comes_after : (old new : Flights F T) (came : Came A T) → ComesByKey future old came new → FlightsGiveNoMore future old new → After (ComesFromSlots future old) came.output (ComesFromSlots future new)
-  comes_after old new came y narrows = Gathers-After (λ x h. (h.0, tags_on old new (freed_places old new came.key.slot y.freed) narrows (h.0, x) h.1)) (held_count old.slots) (held_count new.slots) came.output y.fewer (came.tag, came_under old new came y)
-
-  pub comes_first : (old new : Flights F T) (came : Came A T) → ComesByKey future old came new → ComesFromSlots future old [] (Some came.output)
-  comes_first old new came y = record { each = tt; ends = ((came.tag, came_under old new came y), let k = y.fewer in omega (arith, k)) }
+  pub stream_answers : (can_poll : Flights F T → Type 0) (old new : Flights F T) (answer : Poll (Option (Came A T))) (cx left : Context) → can_poll new → PollsInFlight future old answer new cx left → StreamAnswers (as_stream can_poll) old (without_key answer) new cx left
+  stream_answers can_poll old new Pending cx left again p =
+      let less : (x : A) → AnySlotGives future new x → AnySlotGives future old x = λ x h. (h.0, polled_tags old new Pending p.gave p.narrows (h.0, x) h.1) in
+      answers_of (as_stream can_poll) old new Pending cx left tt tt (Gathers-Within less (held_count old.slots) (held_count new.slots) (ap (λ (s : Slots (Place T)). held_count s) p.gave.1)) again p.registered p.kept
+  stream_answers can_poll old new (Ready None) cx left again p = answers_of (as_stream can_poll) old new (Ready None) cx left (record { each = tt; ends = sym p.gave.0 }) tt tt again tt p.kept
+  stream_answers can_poll old new (Ready (Some came)) cx left again p =
+      let less : (x : A) → AnySlotGives future new x → AnySlotGives future old x = λ x h. (h.0, polled_tags old new (Ready (Some came)) p.gave p.narrows (h.0, x) h.1) in
+      let gave : AnySlotGives future old came.output = (came.tag, came_under old new came p.gave) in
+      answers_of (as_stream can_poll) old new (Ready (Some came.output)) cx left (record { each = tt; ends = (gave, omega (arith, p.gave.fewer)) }) (Gathers-After less (held_count old.slots) (held_count new.slots) came.output p.gave.fewer gave) tt again tt p.kept
 
 module _ {F A T : Type 0} (future : FutureOf F A) where
   -- a set without a future may be polled
@@ -137,6 +140,29 @@ module _ {F A T : Type 0} (future : FutureOf F A) where
     waiting = rw empty tt;
     older = λ came h. elim h [ inl run ↦ absurd (rw none at run) | inr wait ↦ absurd (rw empty at wait) ];
   }
+
+  -- the kit's set was polled, and what waits is as it was
+  pub less_after : (old new : Flights F T) → ((came : Key × Option A) → AnyRunGives future new.running came → AnyRunGives future old.running came) → new.waiting ≡ old.waiting → FlightsGiveNoMore future old new
+  less_after old new narrows waiting came g = elim g [
+    | inl run ↦ inl (narrows came run)
+    | inr wait ↦ inr (subst (λ ws. AnyWaitGives future ws came) waiting wait)
+  ]
+
+  can_on : (old new : Flights F T) → CanPollAll future old → CanPollRuns future new.running
+      → CanPollWaiting future new.waiting → new.next ≡ old.next → FlightsGiveNoMore future old new → CanPollAll future new
+  can_on old new can each waits next less =
+      record { running = each; waiting = waits; older = λ came g. subst (λ n. came.0.push < n) (sym next) (can.older came (less came g)) }
+
+  pub can_after : (old new : Flights F T) → CanPollAll future old → CanPollRuns future new.running
+      → new.waiting ≡ old.waiting → new.next ≡ old.next → FlightsGiveNoMore future old new → CanPollAll future new
+  can_after old new can each waiting = can_on old new can each (subst (λ ws. CanPollWaiting future ws) (sym waiting) can.waiting)
+
+  -- a set with the same futures gives no more than before, and still may be polled
+  pub same_gives : (old new : Flights F T) → new.running ≡ old.running → new.waiting ≡ old.waiting → FlightsGiveNoMore future old new
+  same_gives old new running = less_after old new (λ came run. subst (λ runs. AnyRunGives future runs came) running run)
+
+  pub same_can_poll : (old new : Flights F T) → CanPollAll future old → new.running ≡ old.running → new.waiting ≡ old.waiting → new.next ≡ old.next → CanPollAll future new
+  same_can_poll old new can running waiting next = can_after old new can (subst (λ runs. CanPollRuns future runs) (sym running) can.running) waiting next (same_gives old new running waiting)
 
   -- the kit's set took the future
   pub flies : (old new : Flights F T) (value : Waits F) → CanPollWaiting future old.waiting
@@ -152,8 +178,7 @@ module _ {F A T : Type 0} (future : FutureOf F A) where
         | inl run ↦ elim (gives came run) [ inl was ↦ inl (inl was) | inr own ↦ inr (own.0, below, own.1) ]
         | inr wait ↦ inl (inr (subst (λ ws. AnyWaitGives future ws came) same wait))
       ] in
-      let waits = ap length same in
-      grind arith
+      record { running = each; waiting = waiting; gives = may; counts = omega (arith, one_more, ap length same); slots = slots; rest = (cancelled, next) }
 
   -- it waits behind the others
   pub left_waiting : (old new : Flights F T) (value : Waits F) → CanPollWaiting future old.waiting
@@ -170,7 +195,7 @@ module _ {F A T : Type 0} (future : FutureOf F A) where
         | inr wait ↦ elim (any_push future old.waiting value came (subst (λ ws. AnyWaitGives future ws came) at_end wait)) [ inl was ↦ inl (inr was) | inr own ↦ inr own ]
       ] in
       let longer = ap length at_end ∙ length_push old.waiting value in
-      grind arith
+      record { running = each; waiting = waiting; gives = gives; counts = omega (arith, no_more, longer); slots = slots; rest = (cancelled, next) }
 
   -- a future went in under the next number
   pub entered : (old mid new : Flights F T) (key : Key) (f : F) (tag : T) → CanPollAll future old
@@ -181,12 +206,8 @@ module _ {F A T : Type 0} (future : FutureOf F A) where
       → Flies future mid (record { key = key; future = f }) new
       → EntersAt future old f tag key new
   entered old mid new key f tag can number small next ins more running waiting cancelled h =
-      let was : (came : Key × Option A) → MayCome future mid came → MayCome future old came = λ came g. elim g [
-        | inl run ↦ inl (subst (λ runs. AnyRunGives future runs came) running run)
-        | inr wait ↦ inr (subst (λ ws. AnyWaitGives future ws came) waiting wait)
-      ] in
       let gives : (came : Key × Option A) → MayCome future new came → MayCome future old came ⊎ WaitGives future (record { key = key; future = f }) came =
-      λ came g. elim (h.gives came g) [ inl mids ↦ inl (was came mids) | inr own ↦ inr own ] in
+      λ came g. elim (h.gives came g) [ inl mids ↦ inl (same_gives old mid running waiting came mids) | inr own ↦ inr own ] in
       record {
         numbered = (number, h.rest.1 ∙ next);
         went_in = subst (λ slots. Inserts old.slots key.slot (record { tag = tag; push = key.push }) slots) (sym h.slots) ins;
@@ -212,32 +233,8 @@ module _ {F A T : Type 0} (future : FutureOf F A) where
   pub same_slots : (old new : Flights F T) (f : F) (tag : T) (key : Key) → EntersAt future old f tag key new → flight_slots new ≡ flight_slots old
   same_slots old new f tag key p = ap (λ (places : List (Option (Place T))). length places) p.went_in.now_held ∙ length-set old.slots.places key.slot _
 
-  -- the kit's set was polled, and what waits is as it was
-  pub less_after : (old new : Flights F T) → ((came : Key × Option A) → AnyRunGives future new.running came → AnyRunGives future old.running came) → new.waiting ≡ old.waiting → FlightsGiveNoMore future old new
-  less_after old new narrows waiting came g = elim g [
-    | inl run ↦ inl (narrows came run)
-    | inr wait ↦ inr (subst (λ ws. AnyWaitGives future ws came) waiting wait)
-  ]
-
-  can_on : (old new : Flights F T) → CanPollAll future old → CanPollRuns future new.running
-      → CanPollWaiting future new.waiting → new.next ≡ old.next → FlightsGiveNoMore future old new → CanPollAll future new
-  can_on old new can each waits next less = record {
-    running = each;
-    waiting = waits;
-    older = λ came g. subst (λ n. came.0.push < n) (sym next) (can.older came (less came g));
-  }
-
-  pub can_after : (old new : Flights F T) → CanPollAll future old → CanPollRuns future new.running
-      → new.waiting ≡ old.waiting → new.next ≡ old.next → FlightsGiveNoMore future old new → CanPollAll future new
-  can_after old new can each waiting = can_on old new can each (subst (λ ws. CanPollWaiting future ws) (sym waiting) can.waiting)
-
-  -- a set that may be polled still may be after a slot was made, or none was needed
   pub wide_can_poll : (old wide : Flights F T) → CanPollAll future old → MakesRoom old wide → CanPollAll future wide
-  wide_can_poll old wide can (inl same) = subst (λ s. CanPollAll future s) (sym same.1) can
-  wide_can_poll old wide can (inr made) =
-      let futures = made.1.futures in
-      let less : FlightsGiveNoMore future old wide = less_after old wide (λ came run. subst (λ runs. AnyRunGives future runs came) futures.0 run) futures.1 in
-      can_after old wide can (subst (λ runs. CanPollRuns future runs) (sym futures.0) can.running) futures.1 made.1.rest.1 less
+  wide_can_poll old wide can made = let w = widens old wide made in same_can_poll old wide can w.futures.0 w.futures.1 w.rest.1
 
   -- room was made, and the future went in
   pub admitted : {B : Type 0} (grows : Bool) (old wide new : Flights F T) (f : F) (tag : T) (given : B) (key : Key) → MakesRoom old wide → (grows ≡ false → wide ≡ old) → (HasNoRoom wide → ⊥) → EntersAt future wide f tag key new → PushesInFlight future grows old f tag given (Ok key) new
@@ -249,7 +246,7 @@ module _ {F A T : Type 0} (future : FutureOf F A) where
         room = λ e. absurd (false≢true e);
       }
   admitted true old wide new f tag given key made same has p =
-      record { went_in = (wide, made, p); back = tt; full = λ used. absurd (has (inr (used_still old wide made used))); room = λ e. absurd (false≢true e) }
+      record { went_in = (wide, made, p); back = tt; full = λ used. absurd (has (inr (omega (arith, (widens old wide made).rest.1, used)))); room = λ e. absurd (false≢true e) }
 
   -- there was no room
   pub turned_away : {B : Type 0} (grows : Bool) (old new : Flights F T) (f : F) (tag : T) (given : B) → HasNoRoom old → new ≡ old → PushesInFlight future grows old f tag given (Err given) new
@@ -270,29 +267,25 @@ module _ {F A T : Type 0} (future : FutureOf F A) where
         | inr wait ↦ inr (subst (λ ws. AnyWaitGives future ws came) (sym is) (inr wait))
       ] in
       let again = can_on old new can (subst (λ runs. CanPollRuns future runs) (sym running) can.running) (subst (λ ws. CanPollWaiting future ws) is can.waiting).1 next less in
-      grind arith
+      record { slots = slots; keys = next; room = room; less = less; again = again }
 
   -- one that waited went to the kit's set, or waits again
   pub started : (old mid new : Flights F T) (w : Waits F) → CanPollAll future old → old.waiting ≡ w ∷ mid.waiting → mid.running ≡ old.running
       → mid.slots ≡ old.slots → mid.next ≡ old.next → mid.cancelled ≡ old.cancelled → Flies future mid w new → Starts future old new
   started old mid new w can is running slots next room h =
+      let first = dropped old mid w can is running slots next (omega (arith, room)) in
       let less : FlightsGiveNoMore future old new = λ came g. elim (h.gives came g) [
-        | inl mids ↦ elim mids [
-          | inl run ↦ inl (subst (λ runs. AnyRunGives future runs came) running run)
-          | inr wait ↦ inr (subst (λ ws. AnyWaitGives future ws came) (sym is) (inr wait))
-        ]
+        | inl mids ↦ first.less came mids
         | inr own ↦ inr (subst (λ ws. AnyWaitGives future ws came) (sym is) (inl own))
       ] in
       let again = can_on old new can h.running h.waiting (h.rest.1 ∙ next) less in
-      grind arith
+      record { slots = h.slots ∙ slots; keys = h.rest.1 ∙ next; room = omega (arith, h.rest.0, room); less = less; again = again }
 
   -- a poll of what the starts and turns before left
   pub polls_from : (old mid new : Flights F T) (answer : Poll (Option (Came A T))) (cx asked left : Context) → Starts future old mid → Keeps cx asked → 0 < held_count mid.slots → PollsInFlight future mid answer new asked left → PollsInFlight future old answer new cx left
   polls_from old mid new answer cx asked left s kept some p =
-      let gave = gave answer p.gave in
-      let less : FlightsGiveNoMore future old new = λ came g. s.less came (p.narrows came g) in
       let kept : Keeps cx left = λ fact h. p.kept fact (kept fact h) in
-      grind arith
+      record { gave = gave answer p.gave; narrows = λ came g. s.less came (p.narrows came g); keys = p.keys ∙ s.keys; room = omega (arith, p.room, s.room); stays = p.stays; ended = p.ended; started = p.started; registered = p.registered; kept = kept; again = p.again }
     where
       gave : (answer : Poll (Option (Came A T))) → GivesByKey future mid answer new → GivesByKey future old answer new
       gave (Ready None) g = absurd (omega (arith, some, g.0))
@@ -308,15 +301,13 @@ module _ {F A T : Type 0} (future : FutureOf F A) where
   pub pended : (old new : Flights F T) (cx asked left : Context) → Starts future old new → Keeps cx asked → 0 < held_count new.slots → Keeps asked left → IsArmed left → IsWoken left → PollsInFlight future old Pending new cx left
   pended old new cx asked left s kept some keeps armed heard =
       let some = subst (λ (slots : Slots (Place T)). 0 < held_count slots) s.slots some in
-      let registered : Covers left (FlightsWaitAt new) = (armed, λ source _. heard source) in
       let kept : Keeps cx left = λ fact h. keeps fact (kept fact h) in
-      grind arith
+      record { gave = (some, s.slots); narrows = s.less; keys = s.keys; room = s.room; stays = inr heard; ended = inr heard; started = inr heard; registered = (armed, λ source _. heard source); kept = kept; again = s.again }
 
   -- nothing is held
   pub ends : (old new : Flights F T) (cx : Context) → held_count old.slots ≡ 0 → new.cancelled ≡ 0 → new.waiting ≡ [] → new.slots ≡ old.slots → new.next ≡ old.next → (old.cancelled ≡ 0 → new ≡ old) → FlightsGiveNoMore future old new → CanPollAll future new → PollsInFlight future old (Ready None) new cx cx
   ends old new cx none gone no_waiting slots next same less again =
-      let kept : Keeps cx cx = λ fact h. h in
-      grind arith
+      record { gave = (none, slots, gone, same); narrows = less; keys = next; room = omega (arith, gone); stays = tt; ended = tt; started = inl no_waiting; registered = tt; kept = λ fact h. h; again = again }
 
   -- one turn: the kit's set was polled, and then some room may be free
   pub turned : (old mid new : Flights F T) → CanPollAll future old → CanPollRuns future mid.running
@@ -327,7 +318,7 @@ module _ {F A T : Type 0} (future : FutureOf F A) where
   turned old mid new can each narrows slots next waiting cancelled running slots2 next2 waiting2 room =
       let less = less_after old new (λ came h. narrows came (subst (λ runs. AnyRunGives future runs came) running h)) (waiting2 ∙ waiting) in
       let again = can_after old new can (subst (λ runs. CanPollRuns future runs) (sym running) each) (waiting2 ∙ waiting) (next2 ∙ next) less in
-      grind arith
+      record { slots = slots2 ∙ slots; keys = next2 ∙ next; room = omega (arith, room, cancelled); less = less; again = again }
 
   -- the kit's set is pending
   pub waited : (old new : Flights F T) (cx asked left : Context) → Starts future old new → 0 < held_count old.slots
@@ -337,7 +328,7 @@ module _ {F A T : Type 0} (future : FutureOf F A) where
       let kept : Keeps cx left = λ fact h. keeps fact (kept fact h) in
       let started = started_still old.waiting new.waiting cx left waiting kept started in
       let registered : Covers left (FlightsWaitAt new) = (keeps Lasting.armed registered.0, λ source at. keeps (Lasting.hears source) (registered.1 source at)) in
-      grind arith
+      record { gave = (some, s.slots); narrows = s.less; keys = s.keys; room = s.room; stays = stays; ended = ended; started = started; registered = registered; kept = kept; again = s.again }
 
   -- an output of a future that is held
   pub came_out : (old mid new : Flights F T) (came : Came A T) (cx left : Context) → CanPollAll future old → CanPollRuns future mid.running
@@ -360,4 +351,4 @@ module _ {F A T : Type 0} (future : FutureOf F A) where
       } in
       let again = can_after old new can (subst (λ runs. CanPollRuns future runs) (sym running) each) (waiting2 ∙ waiting) (next2 ∙ next) less in
       let started = started_still old.waiting new.waiting cx left (waiting2 ∙ waiting) kept started in
-      grind arith
+      record { gave = gave; narrows = less; keys = next2 ∙ next; room = omega (arith, room, cancelled); stays = tt; ended = tt; started = started; registered = tt; kept = kept; again = again }

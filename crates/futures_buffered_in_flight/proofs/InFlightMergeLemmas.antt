@@ -1,41 +1,14 @@
 -- What a push, a cancel and a poll leave of a merge of streams.
-use Rattle.std.proofs.Common.{◌≡◌, ◌≢◌, ◌<◌, ◌≤◌, ◌+◌, ◌-◌, ◌^◌, ◌⊎◌, inl, inr, ℕ, List, [], ◌∷◌, length, get_or, Option, Some, None, refl, sym, ap, ap₂, subst, ◌∙◌, arith}
-use Rattle.std.specs.Prelude.{min}
-use Rattle.std.specs.List.{FoldsTo}
-use Rattle.std.proofs.lemmas.Bool.{cases_eq}
-use Rattle.std.proofs.lemmas.List.{get_or-set_other}
-use Rattle.std.proofs.lemmas.Option.{same_Some}
-use Rattle.futures.proofs.EventLemmas.{get_or-push_default}
+use Rattle.futures_buffered_in_flight.proofs.Common.{◌≡◌, ◌<◌, ◌≤◌, ◌+◌, ◌-◌, ◌^◌, ◌⊎◌, inl, inr, ℕ, List, [], ◌∷◌, length, is_some, Option, Some, None, refl, sym, ap, ap₂, subst, ◌∙◌, arith, min, FoldsTo, cases_eq, AnyGives, AnyMay, Runs, Within, IsArmed, Keeps, Poll, Ready, Pending, Context, Slots, held_count, no_slots, value_in, IsWoken, StreamAnswers, stream_of, None-Some, answers_of, CanPollAll, EntersAt, FlightsGiveNoMore, GivesWithKey, IsNewInFlight, MakesRoom, MayCome, PollsInFlight, WaitGives, flight_slots, room_taken, runs_in, without_key, AnswersNoMore, AnswersThen, AnyAnswers, AnyStream, CanPollStreams, ComesFromMerged, ComesOfStream, GivesAnswer, HoldsStream, HoldsStreams, IsNewMerge, Merged, OneGoesOn, OneStreamEndsAtMost, PollsMerge, PollsUnkeyed, StreamEnters, StreamOf, StreamWentIn, Streams, StreamsGoOn, made_set, next_of, streams_held, Came, Place, Key, Run, Waits, MergedWaitsAt}
 use Rattle.futures.specs.Merged.{CanPollNext, NextOf}
-use Rattle.futures.specs.Queued.{AnyGives, AnyMay}
-use Rattle.futures.specs.Runs.{After, Runs, Within}
-use Rattle.futures.specs.Task.{Covers, IsArmed, Keeps}
-use Rattle.futures.specs.declared.task.Poll.{Poll}
-use Rattle.futures.specs.declared.task.Poll.TheVariants.{Ready, Pending}
-use Rattle.futures.specs.declared.task.context.Context.{Context}
 use Rattle.futures.specs.declared.stream.ext.into_future.StreamFuture.{StreamFuture}
-use Rattle.futures_buffered_core.specs.SlotMap.{Slots, held_count, no_slots, value_in}
-use Rattle.futures_buffered_unordered.specs.FuturesUnorderedBounded.{IsWoken}
-use Rattle.futures_buffered_unordered.specs.StreamAnswers.{StreamAnswers, stream_of}
-use Rattle.futures_buffered_unordered.proofs.HeldGivesLemmas.{None-Some}
-use Rattle.futures_buffered_in_flight.specs.InFlight.{CanPollAll, EntersAt, FlightsGiveNoMore, FlightsWaitAt, GivesWithKey, IsNewInFlight, MakesRoom, MayCome, PollsInFlight, WaitGives, flight_slots, room_taken, runs_in}
-use Rattle.futures_buffered_in_flight.specs.InFlightMerge.{AnswersNoMore, AnswersThen, AnyAnswers, AnyStream, CanPollStreams, ComesFromMerged, ComesOfStream, GivesAnswer, HoldsStream, HoldsStreams, IsNewMerge, Merged, MergedWaitsAt, OneGoesOn, OneStreamEndsAtMost, PollsMerge, PollsUnkeyed, StreamEnters, StreamOf, StreamWentIn, Streams, StreamsGoOn, made_set, next_of, streams_held, without_key}
-use Rattle.futures_buffered_in_flight.specs.declared.in_flight.Came.{Came}
-use Rattle.futures_buffered_in_flight.specs.declared.in_flight.Place.{Place}
-use Rattle.futures_buffered_in_flight.specs.declared.run.Key.{Key}
-use Rattle.futures_buffered_in_flight.specs.declared.run.Run.{Run}
-use Rattle.futures_buffered_in_flight.specs.declared.run.Waits.{Waits}
-use Rattle.futures_buffered_in_flight.proofs.InFlightLemmas.{NoNewPlace, freed_places, less_after, none_can_poll, same_places}
-use Rattle.futures_buffered_in_flight.proofs.InFlightQueueLemmas.{its_place, polled_room}
+use Rattle.futures_buffered_in_flight.proofs.InFlightLemmas.{NoNewPlace, freed_places, none_can_poll, same_gives, same_places, widens}
+use Rattle.futures_buffered_in_flight.proofs.InFlightQueueLemmas.{held_after, its_place, polled_room}
 
 module _ {St A : Type 0} (stream : StreamOf St A) where
-  goes_on : (old new : Streams St) → NoNewPlace (next_of stream) old new → FlightsGiveNoMore (next_of stream) old new → StreamsGoOn stream old new
+  goes_on : (old new : Streams St) → NoNewPlace old new → FlightsGiveNoMore (next_of stream) old new → StreamsGoOn stream old new
   goes_on old new places narrows key xs last h =
       record { push = h.push; given = h.given; runs = places key.slot _ h.runs; gives = narrows _ h.gives; comes = h.comes }
-
-  wide_places : (old wide : Streams St) → MakesRoom old wide → NoNewPlace (next_of stream) old wide
-  wide_places old wide (inl same) i place holds = same_places (next_of stream) old wide (ap (λ (s : Streams St). s.slots) same.1) i place holds
-  wide_places old wide (inr made) i place holds = sym (ap (λ ps. get_or ps i None) made.1.slots.0 ∙ get_or-push_default old.slots.places None i) ∙ holds
 
   -- what may come after the next answer of a stream
   then_comes : (next : StreamFuture St) (st : St) (given : Option A × St) → next.stream ≡ Some st → NextOf stream next given → Within (stream.yields st) (AnswersThen stream given)
@@ -47,83 +20,62 @@ module _ {St A : Type 0} (stream : StreamOf St A) where
       let after = rw comes.0 at from.1 in
       after.1 xs last comes.1
 
-  -- the future of a stream entered the set
-  enters : (old new : Streams St) (next : StreamFuture St) (st : St) (tag : ℕ) (key : Key) → next.stream ≡ Some st → EntersAt (next_of stream) old next tag key new
-      → OneGoesOn stream old (record { slot = key.slot; push = tag }) (stream.yields st) new
-  enters old new next st tag key is p k =
+  -- the future of a stream entered the set, which changed before: from the stream comes what `own` says at most
+  enters : (old mid new : Streams St) (next : StreamFuture St) (st : St) (tag : ℕ) (key : Key) (own : Runs A) → StreamsGoOn stream old mid → Within own (stream.yields st) → next.stream ≡ Some st → EntersAt (next_of stream) mid next tag key new
+      → OneGoesOn stream old (record { slot = key.slot; push = tag }) own new
+  enters old mid new next st tag key own before wider is p k =
       elim (cases_eq k.slot key.slot) [
         | inl same ↦ elim (cases_eq k.push tag) [
-          | inl own ↦ inl (ap₂ (λ (slot push : ℕ). record { slot = slot; push = push }) same own, λ xs last h. its_own same xs last h)
-          | inr other ↦ inr (λ e. other (ap (λ (key : Key). key.push) e), λ xs last h. absurd (other (ap (λ (place : Place ℕ). place.tag) (at_slot same h))))
+          | inl tagged ↦ inl (ap₂ (λ (slot push : ℕ). record { slot = slot; push = push }) same tagged, λ xs last h. its_own same xs last h)
+          | inr other ↦ inr (λ e. other (ap (λ (key : Key). key.push) e), λ xs last h. others (λ push at tagged. other tagged) xs last h)
         ]
-        | inr other ↦ inr (λ e. other (ap (λ (key : Key). key.slot) e), λ xs last h. others other xs last h)
+        | inr other ↦ inr (λ e. other (ap (λ (key : Key). key.slot) e), λ xs last h. others (λ push at tagged. other (ap (λ (key : Key). key.slot) at)) xs last h)
       ]
     where
-      at_slot : {xs : List A} {last : Option A} → k.slot ≡ key.slot → (h : ComesOfStream stream new k xs last) → ◌≡◌ {A = Place ℕ} (record { tag = k.push; push = h.push }) (record { tag = tag; push = key.push })
-      at_slot same h = same_Some _ _ (sym h.runs ∙ (ap (λ i. value_in new.slots i) same ∙ its_place (next_of stream) old new next tag key p))
-
-      its_own : k.slot ≡ key.slot → Within (stream.yields st) (ComesOfStream stream new k)
+      its_own : k.slot ≡ key.slot → Within own (ComesOfStream stream new k)
       its_own same xs last h =
-          let at_key : record { slot = k.slot; push = h.push } ≡ key = ap₂ (λ (slot push : ℕ). record { slot = slot; push = push }) same (ap (λ (place : Place ℕ). place.push) (at_slot same h)) in
-          then_comes next st h.given is (p.own h.given (subst (λ (key : Key). MayCome (next_of stream) new (key, Some h.given)) at_key h.gives)) xs last h.comes
+          elim (held_after (next_of stream) mid new next tag key p (record { slot = k.slot; push = h.push }) k.push h.given h.runs h.gives) [
+            | inl was ↦ absurd (was.0 same)
+            | inr its ↦ wider xs last (then_comes next st h.given is its.2 xs last h.comes)
+          ]
 
-      others : k.slot ≢ key.slot → Within (ComesOfStream stream old k) (ComesOfStream stream new k)
-      others other xs last h =
-          record {
-            push = h.push;
-            given = h.given;
-            runs = sym (get_or-set_other old.slots.places key.slot k.slot _ None other) ∙ (sym (ap (λ ps. get_or ps k.slot None) p.went_in.now_held) ∙ h.runs);
-            gives = elim (p.others _ h.gives) [ inl was ↦ was | inr own ↦ absurd (other (ap (λ (key : Key). key.slot) own.0)) ];
-            comes = h.comes;
-          }
-
-  -- what may come from a stream that was pushed, and from the others, with a set that changed before the push
-  goes_on_from : (old mid new : Streams St) (key : Key) (own own' : Runs A) → StreamsGoOn stream old mid → Within own' own → OneGoesOn stream mid key own new → OneGoesOn stream old key own' new
-  goes_on_from old mid new key own own' before wider goes k =
-      elim (goes k) [
-        | inl its ↦ inl (its.0, λ xs last h. wider xs last (its.1 xs last h))
-        | inr other ↦ inr (other.0, λ xs last h. before k xs last (other.1 xs last h))
-      ]
+      others : ((push : ℕ) → ◌≡◌ {A = Key} (record { slot = k.slot; push = push }) key → k.push ≡ tag → ⊥) → Within (ComesOfStream stream old k) (ComesOfStream stream new k)
+      others apart xs last h =
+          elim (held_after (next_of stream) mid new next tag key p (record { slot = k.slot; push = h.push }) k.push h.given h.runs h.gives) [
+            | inl was ↦ before k xs last (record { push = h.push; given = h.given; runs = was.1; gives = was.2; comes = h.comes })
+            | inr its ↦ absurd (apart h.push its.0 its.1)
+          ]
 
   -- room was made, and a stream was pushed
-  pub pushed : (old wide new : Streams St) (next : StreamFuture St) (st : St) (number : ℕ) (key : Key) → next.stream ≡ Some st → number ≡ wide.next → MakesRoom old wide → EntersAt (next_of stream) wide next number key new → StreamEnters stream old st key new
-  pushed old wide new next st number key is own made entered =
-      let p = subst (λ n. EntersAt (next_of stream) wide next n key new) own entered in
-      let goes = enters wide new next st wide.next key is p in
-      let narrows : FlightsGiveNoMore (next_of stream) old wide = wide_narrows made in
-      let is_key : record { slot = key.slot; push = wide.next } ≡ key = ap (λ n. record { slot = key.slot; push = n }) (sym p.numbered.0) in
+  pub pushed : (old wide new : Streams St) (next : StreamFuture St) (st : St) (tag : ℕ) (key : Key) → next.stream ≡ Some st → tag ≡ wide.next → MakesRoom old wide → EntersAt (next_of stream) wide next tag key new → StreamEnters stream old st key new
+  pushed old wide new next st tag key is own made p =
+      let w = widens old wide made in
+      let same : tag ≡ key.push = own ∙ sym p.numbered.0 in
       record {
-        one_more = omega (arith, p.one_more, wide_count made);
-        held = (key.push, its_place (next_of stream) wide new next wide.next key p ∙ ap (λ n. Some (record { tag = n; push = key.push })) (sym p.numbered.0));
-        numbered = (p.numbered.0 ∙ wide_next made, p.numbered.1 ∙ ap (λ n. min (n + 1) (2 ^ 64 - 1)) (wide_next made));
-        comes = goes_on_from old wide new key (stream.yields st) (stream.yields st) (goes_on old wide (wide_places old wide made) narrows) (λ xs last h. h) (subst (λ k. OneGoesOn stream wide k (stream.yields st) new) is_key goes);
+        one_more = omega (arith, p.one_more, w.counts is_some refl);
+        held = (key.push, subst (λ n. value_in new.slots key.slot ≡ Some (record { tag = n; push = key.push })) same (its_place (next_of stream) wide new next tag key p));
+        numbered = (p.numbered.0 ∙ w.rest.1, p.numbered.1 ∙ ap (λ n. min (n + 1) (2 ^ 64 - 1)) w.rest.1);
+        comes = subst (λ n. OneGoesOn stream old (record { slot = key.slot; push = n }) (stream.yields st) new) same
+            (enters old wide new next st tag key (stream.yields st) (goes_on old wide w.places (same_gives (next_of stream) old wide w.futures.0 w.futures.1)) (λ xs last h. h) is p);
         again = p.again;
       }
-    where
-      wide_narrows : MakesRoom old wide → FlightsGiveNoMore (next_of stream) old wide
-      wide_narrows (inl same) came h = subst (λ (s : Streams St). MayCome (next_of stream) s came) same.1 h
-      wide_narrows (inr made) came h = less_after (next_of stream) old wide (λ came run. rw (sym made.1.futures.0) run) made.1.futures.1 came h
 
-      wide_count : MakesRoom old wide → held_count wide.slots ≡ held_count old.slots
-      wide_count (inl same) = ap (λ (s : Streams St). held_count s.slots) same.1
-      wide_count (inr made) = made.1.slots.2
-
-      wide_next : MakesRoom old wide → wide.next ≡ old.next
-      wide_next (inl same) = ap (λ (s : Streams St). s.next) same.1
-      wide_next (inr made) = made.1.rest.1
+  -- a poll that is not pending
+  ready : (old new : Streams St) (o : Option (Came A (Unit {0}))) (cx left : Context) → GivesAnswer stream old (Ready o) new → OneStreamEndsAtMost stream old new → ((new.next ≡ old.next) ⊎ (new.next ≡ min (old.next + 1) (2 ^ 64 - 1))) → Keeps cx left → CanPollAll (next_of stream) new
+      → PollsMerge stream old (Ready o) new cx left
+  ready old new o cx left gave ended keys kept again = record { gave = gave; ended = ended; keys = keys; stays = tt; dropped = tt; started = tt; registered = tt; kept = kept; again = again }
 
   -- a pending poll of the set, and `None`
   pub stays_pending : (old new : Streams St) (cx left : Context) → PollsInFlight (next_of stream) old Pending new cx left → PollsMerge stream old Pending new cx left
   stays_pending old new cx left p =
       let same = ap (λ (s : Slots (Place ℕ)). held_count s) p.gave.1 in
-      let on = goes_on old new (same_places (next_of stream) old new p.gave.1) p.narrows in
-      grind arith
+      let on = goes_on old new (same_places old new p.gave.1) p.narrows in
+      record { gave = (omega (arith, same, p.gave.0), on); ended = inl same; keys = inl p.keys; stays = p.stays; dropped = p.ended; started = p.started; registered = p.registered; kept = p.kept; again = p.again }
 
   pub came_none : (old new : Streams St) (cx left : Context) → PollsInFlight (next_of stream) old (Ready None) new cx left → PollsMerge stream old (Ready None) new cx left
   came_none old new cx left p =
       let same = ap (λ (s : Slots (Place ℕ)). held_count s) p.gave.1 in
-      let on = goes_on old new (same_places (next_of stream) old new p.gave.1) p.narrows in
-      grind arith
+      ready old new None cx left (same ∙ p.gave.0, p.gave.2, goes_on old new (same_places old new p.gave.1) p.narrows) (inl same) (inl p.keys) p.kept p.again
 
   -- what is left of a stream after an item may be polled
   rest_of : (next : StreamFuture St) (x : A) (rest : St) → NextOf stream next (Some x, rest) → stream.can_poll rest
@@ -145,14 +97,17 @@ module _ {St A : Type 0} (stream : StreamOf St A) where
   can_poll_rest set key x rest (inr wait) = waiting_rest set.waiting key x rest wait
 
   module _ (old mid : Streams St) (came : Came (Option A × St) ℕ) (cx at : Context) (p : PollsInFlight (next_of stream) old (Ready (Some came)) mid cx at) where
+    abbrev its_key : Key
+    its_key = record { slot = came.key.slot; push = came.tag }
+
     mid_goes_on : StreamsGoOn stream old mid
-    mid_goes_on = goes_on old mid (freed_places (next_of stream) old mid came.key.slot p.gave.freed) p.narrows
+    mid_goes_on = goes_on old mid (freed_places old mid came.key.slot p.gave.freed) p.narrows
 
     -- after an answer there is room for the stream
     pub room_again : room_taken old ≤ flight_slots old → room_taken mid < flight_slots mid
     room_again bound = let room = polled_room (next_of stream) old mid (Ready (Some came)) p.gave in omega (arith, bound, p.gave.fewer, p.room, room.0)
 
-    first : (xs : List A) (last : Option A) → AnswersThen stream came.output xs last → ComesOfStream stream old (record { slot = came.key.slot; push = came.tag }) xs last
+    first : (xs : List A) (last : Option A) → AnswersThen stream came.output xs last → ComesOfStream stream old its_key xs last
     first xs last comes = record { push = came.key.push; given = came.output; runs = p.gave.was_held; gives = p.gave.gave; comes = comes }
 
     -- the rest of the stream may be polled
@@ -161,18 +116,13 @@ module _ {St A : Type 0} (stream : StreamOf St A) where
 
     -- an item, and its stream was pushed again
     pub item : (new : Streams St) (next : StreamFuture St) (again : Key) (x : A) → came.output.0 ≡ Some x → next.stream ≡ Some came.output.1 → EntersAt (next_of stream) mid next came.tag again new
-        → PollsMerge stream old (Ready (Some (record { key = record { slot = came.key.slot; push = came.tag }; tag = tt; output = x }))) new cx at
+        → PollsMerge stream old (Ready (Some (record { key = its_key; tag = tt; output = x }))) new cx at
     item new next again x is rest e =
-        let slot : again.slot ≡ came.key.slot = same_slot in
         let count : held_count new.slots ≡ held_count old.slots = omega (arith, e.one_more, p.gave.fewer) in
-        let some : 0 < held_count old.slots = omega (arith, p.gave.fewer) in
-        let gave = first [] (Some x) is in
-        let stays : HoldsStream new (record { slot = came.key.slot; push = came.tag }) =
-        (again.push, subst (λ slot. value_in new.slots slot ≡ Some (record { tag = came.tag; push = again.push })) slot (its_place (next_of stream) mid new next came.tag again e)) in
-        let comes = goes_on_from old mid new (record { slot = came.key.slot; push = came.tag }) (stream.yields came.output.1) (λ xs last. ComesOfStream stream old (record { slot = came.key.slot; push = came.tag }) (x ∷ xs) last) mid_goes_on (λ xs last h. first (x ∷ xs) last (is, h))
-        (subst (λ slot. OneGoesOn stream mid (record { slot = slot; push = came.tag }) (stream.yields came.output.1) new) slot (enters mid new next came.output.1 came.tag again rest e)) in
-        let keys = e.numbered.1 ∙ ap (λ n. min (n + 1) (2 ^ 64 - 1)) p.keys in
-        grind arith
+        let comes = subst (λ slot. OneGoesOn stream old (record { slot = slot; push = came.tag }) (λ xs last. ComesOfStream stream old its_key (x ∷ xs) last) new) same_slot
+        (enters old mid new next came.output.1 came.tag again (λ xs last. ComesOfStream stream old its_key (x ∷ xs) last) mid_goes_on (λ xs last h. first (x ∷ xs) last (is, h)) rest e) in
+        let stays : HoldsStream new its_key = (again.push, subst (λ slot. value_in new.slots slot ≡ Some (record { tag = came.tag; push = again.push })) same_slot (its_place (next_of stream) mid new next came.tag again e)) in
+        ready old new (Some (record { key = its_key; tag = tt; output = x })) cx at (record { gave = first [] (Some x) is; stays = stays; same_count = (count, omega (arith, p.gave.fewer)); comes = comes }) (inl count) (inr (e.numbered.1 ∙ ap (λ n. min (n + 1) (2 ^ 64 - 1)) p.keys)) p.kept e.again
       where
         same_slot : again.slot ≡ came.key.slot
         same_slot =
@@ -180,28 +130,22 @@ module _ {St A : Type 0} (stream : StreamOf St A) where
             cc
 
     ends : came.output.0 ≡ None → (new : Streams St) → new.slots ≡ mid.slots → OneStreamEndsAtMost stream old new
-    ends is new same = inr (let count = ap (λ (s : Slots (Place ℕ)). held_count s) same in omega (arith, count, p.gave.fewer), (record { slot = came.key.slot; push = came.tag }, [], first [] None is))
-
-    mid_on : (new : Streams St) → new.slots ≡ mid.slots → FlightsGiveNoMore (next_of stream) mid new → StreamsGoOn stream old new
-    mid_on new same less k xs last h = mid_goes_on k xs last (goes_on mid new (same_places (next_of stream) mid new same) less k xs last h)
+    ends is new same = inr (let count = ap (λ (s : Slots (Place ℕ)). held_count s) same in omega (arith, count, p.gave.fewer), (its_key, [], first [] None is))
 
     -- the last stream has ended
     pub all_ended : (new : Streams St) → came.output.0 ≡ None → held_count old.slots ≤ 1 → new.cancelled ≡ 0 → new.slots ≡ mid.slots → new.next ≡ mid.next → FlightsGiveNoMore (next_of stream) mid new → CanPollAll (next_of stream) new
         → PollsMerge stream old (Ready None) new cx at
     all_ended new is few none same next less again =
         let count = ap (λ (s : Slots (Place ℕ)). held_count s) same in
-        let on = mid_on new same less in
-        let end = ends is new same in
-        grind arith
+        let on : StreamsGoOn stream old new = λ k xs last h. mid_goes_on k xs last (goes_on mid new (same_places mid new same) less k xs last h) in
+        ready old new None cx at (omega (arith, count, few, p.gave.fewer), none, on) (ends is new same) (inl (next ∙ p.keys)) p.kept again
 
     -- a stream has ended, and others are held
     pub one_ended : (left : Context) → came.output.0 ≡ None → 1 < held_count old.slots → Keeps at left → IsArmed left → IsWoken left → PollsMerge stream old Pending mid cx left
     one_ended left is more keeps armed heard =
-        let on = mid_goes_on in
-        let end = ends is mid refl in
-        let registered : Covers left (FlightsWaitAt mid) = (armed, λ source _. heard source) in
+        let gave : GivesAnswer stream old Pending mid = (omega (arith, more, p.gave.fewer), mid_goes_on) in
         let kept : Keeps cx left = λ fact h. keeps fact (p.kept fact h) in
-        grind arith
+        record { gave = gave; ended = ends is mid refl; keys = inl p.keys; stays = inr heard; dropped = inr heard; started = inr heard; registered = (armed, λ source _. heard source); kept = kept; again = p.again }
 
   -- what any stream may return after a push or an item
   any_on : (old new : Streams St) (key : Key) (own : Runs A) → OneGoesOn stream old key own new → (answer : Option A) → AnyAnswers stream new answer → AnyAnswers stream old answer ⊎ ((before : List A) × own before answer)
@@ -222,22 +166,19 @@ module _ {St A : Type 0} (stream : StreamOf St A) where
   comes_before old new (inl same) narrows before after None (inl none) = inl (sym same ∙ none)
   comes_before old new (inr one) narrows before after None (inl none) = inr one.1
 
-  stream_answers : (old new : Merged St) (answer : Poll (Option (Came A (Unit {0})))) (cx left : Context) → PollsMerge stream old.set answer new.set cx left
-      → StreamAnswers (stream_of (CanPollStreams stream) MergedWaitsAt (ComesFromMerged stream)) old (without_key answer) new cx left
-  stream_answers old new Pending cx left p =
-      let comes : Within (ComesFromMerged stream old) (ComesFromMerged stream new) = λ xs last h. comes_before old new p.ended (narrows old.set new.set Pending p.gave) xs xs last h in
-      grind arith
+  abbrev as_stream : StreamOf (Merged St) A
+  as_stream = stream_of (CanPollStreams stream) MergedWaitsAt (ComesFromMerged stream)
+
+  stream_answers : (old new : Merged St) (answer : Poll (Option (Came A (Unit {0})))) (cx left : Context) → PollsMerge stream old.set answer new.set cx left → StreamAnswers as_stream old (without_key answer) new cx left
+  stream_answers old new Pending cx left p = answers_of as_stream old new Pending cx left tt tt (λ xs last h. comes_before old new p.ended (narrows old.set new.set Pending p.gave) xs xs last h) p.again p.registered p.kept
   stream_answers old new (Ready None) cx left p =
       let value : ComesFromMerged stream old [] None = elim p.ended [ inl same ↦ inl (sym same ∙ p.gave.0) | inr one ↦ inr one.1 ] in
-      grind arith
+      answers_of as_stream old new (Ready None) cx left value tt tt p.again tt p.kept
   stream_answers old new (Ready (Some came)) cx left p =
-      let value : ComesFromMerged stream old [] (Some came.output) = (came.key, [], p.gave.gave) in
-      let comes : After (ComesFromMerged stream old) came.output (ComesFromMerged stream new) = λ xs last h. comes_before old new p.ended (narrows old.set new.set (Ready (Some came)) p.gave) (came.output ∷ xs) xs last h in
-      grind arith
+      answers_of as_stream old new (Ready (Some came.output)) cx left (came.key, [], p.gave.gave) (λ xs last h. comes_before old new p.ended (narrows old.set new.set (Ready (Some came)) p.gave) (came.output ∷ xs) xs last h) tt p.again tt p.kept
 
-  pub polled_as : (old new : Merged St) (answer : Poll (Option A)) (cx left : Context) → PollsUnkeyed stream old answer new cx left
-      → StreamAnswers (stream_of (CanPollStreams stream) MergedWaitsAt (ComesFromMerged stream)) old answer new cx left
-  polled_as old new answer cx left p = subst (λ a. StreamAnswers (stream_of (CanPollStreams stream) MergedWaitsAt (ComesFromMerged stream)) old a new cx left) (sym p.same) (stream_answers old new p.keyed cx left p.polls)
+  pub polled_as : (old new : Merged St) (answer : Poll (Option A)) (cx left : Context) → PollsUnkeyed stream old answer new cx left → StreamAnswers as_stream old answer new cx left
+  polled_as old new answer cx left p = rw p.same (stream_answers old new p.keyed cx left p.polls)
 
   -- these streams came beside those that were held
   abbrev HoldsBeside : Merged St → List St → Merged St → Type 0
@@ -271,6 +212,10 @@ module _ {St A : Type 0} (stream : StreamOf St A) where
         again = all.2;
       }
 
+-- a set that is another may be polled as that
+pub can_poll_same : {St A : Type 0} (stream : StreamOf St A) (old new : Streams St) → CanPollAll (next_of stream) old → old ≡ new → CanPollAll (next_of stream) new
+can_poll_same stream old new can same = subst (λ set. CanPollAll (next_of stream) set) same can
+
 -- a set that was made for the first push
 pub first_set : {St : Type 0} (set : Streams St) → IsNewInFlight 0 set → set.next ≡ 0 → set ≡ made_set None
 first_set set new next =
@@ -284,5 +229,4 @@ none_holds St key h = absurd (None-Some h.1)
 
 pub none_made : {St A : Type 0} (stream : StreamOf St A) (cx : Context) → PollsMerge stream (made_set None) (Ready None) (made_set None) cx cx
 none_made stream cx =
-    let can = none_can_poll (next_of stream) (made_set None) refl refl in
-    grind arith
+    ready stream (made_set None) (made_set None) None cx cx (refl, refl, λ key xs last h. h) (inl refl) (inl refl) (λ fact h. h) (none_can_poll (next_of stream) (made_set None) refl refl)

@@ -1,47 +1,25 @@
 -- What the calls of an ordered queue of futures in flight leave of it.
-use Rattle.std.proofs.Common.{◌≡◌, ◌+◌, ◌<◌, ◌≤◌, ◌^◌, ℕ, Bool, true, false, List, [], ◌∷◌, length, cond, is_some, Option, Some, None, ◌⊎◌, inl, inr, refl, sym, subst, ap, ◌∙◌, arith}
-use Rattle.std.specs.List.{FoldsTo}
-use Rattle.std.specs.Prelude.{Result, Ok, Err, OnOk, IfErr, IsErr}
-use Rattle.std.proofs.lemmas.Bool.{false≢true, true≢false}
-use Rattle.std.proofs.lemmas.List.{length-replicate}
+use Rattle.futures_buffered_in_flight.proofs.Common.{◌≡◌, ◌+◌, ◌<◌, ◌≤◌, ◌^◌, ℕ, Bool, true, false, List, [], ◌∷◌, length, cond, Option, Some, None, ◌⊎◌, inl, inr, refl, sym, subst, ap, ◌∙◌, arith, FoldsTo, Result, Ok, Err, OnOk, IfErr, IsErr, false≢true, true≢false, Poll, Ready, Pending, OnPending, Runs, Within, Context, Slots, held_count, no_slots, IsWoken, StreamAnswers, stream_of, PollsNumberedSet, one_at, AddsBack, AddsFront, BesideTask, HandsBack, IsUnused, MayRefuse, Ordered, OrderedGives, PollsOrdered, QueueIsAtBound, SetYields, with_task, Flights, FlightsWaitAt, FutureOf, IsNewInFlight, TagGives, flight_slots, CanPollQueue, MayRefuseNumber, PollsQueued, PushesQueued, RefusesNumbers, has_tag, flights_with, AnswersInTurn, CanPollOrdered, ComesOfEach, EntersBack, EntersFront, HasPlaces, IsCleared, KeepsInOrder, MayRefuseFuture, OrderedIsFull, OrderedWaitsAt, PushesInTurn, PushesOrComesBack, RefusesFutures, Came, Place}
 use Rattle.std.proofs.lemmas.List.Folds.{sum_by-replicate}
-use Rattle.futures.specs.declared.task.Poll.{Poll}
-use Rattle.futures.specs.declared.task.Poll.TheVariants.{Ready, Pending}
-use Rattle.futures.specs.Poll.{OnPending}
-use Rattle.futures.specs.Runs.{Runs, Within}
-use Rattle.futures.specs.declared.task.context.Context.{Context}
-use Rattle.futures_buffered_core.specs.SlotMap.{Slots, held_count, no_slots}
-use Rattle.futures_buffered_unordered.specs.FuturesUnorderedBounded.{IsWoken}
-use Rattle.futures_buffered_unordered.specs.StreamAnswers.{StreamAnswers, stream_of}
 use Rattle.futures_buffered_unordered.specs.declared.poll_one.PollFuture.{PollFuture}
-use Rattle.futures_buffered_unordered.proofs.StreamAnswersLemmas.{answers_of}
-use Rattle.futures_buffered_ordered.specs.Numbered.{PollsNumberedSet, one_at}
 use Rattle.futures_buffered_ordered.specs.declared.numbered_polls.NumberedPolls.{Ghosts as NumberedPollsOf}
-use Rattle.futures_buffered_ordered.specs.OrderedEntries.{AddsBack, AddsFront, BesideTask, HandsBack, IsUnused, MayRefuse, Ordered, OrderedGives, PollsOrdered, QueueIsAtBound, SetYields, with_task}
 use Rattle.futures_buffered_ordered.specs.OrderedEntriesInvariant.{IsNumbered}
 use Rattle.futures_buffered_ordered.proofs.OrderedEntriesInvariantLemmas.{held_by_entries, new_is_numbered}
-use Rattle.futures_buffered_ordered.proofs.OrderedEntriesLemmas.{as_many_of, comes_before, comes_behind, empty_of, fewer_of, gives_alone, no_more_of, one_entry_more, one_entry_more_before, rest_of, same_of, unused_none, value_of}
-use Rattle.futures_buffered_in_flight.specs.InFlight.{Flights, FlightsWaitAt, FutureOf, IsNewInFlight, TagGives, flight_slots}
-use Rattle.futures_buffered_in_flight.specs.InFlightQueue.{CanPollQueue, MayRefuseNumber, PollsQueued, PushesQueued, RefusesNumbers, has_tag, flights_with}
-use Rattle.futures_buffered_in_flight.specs.InFlightOrdered.{AnswersInTurn, CanPollOrdered, ComesOfEach, EntersBack, EntersFront, HasPlaces, IsCleared, KeepsInOrder, MayRefuseFuture, OrderedIsFull, OrderedWaitsAt, PushesInTurn, PushesOrComesBack, RefusesFutures}
-use Rattle.futures_buffered_in_flight.specs.declared.in_flight.Came.{Came}
-use Rattle.futures_buffered_in_flight.specs.declared.in_flight.Place.{Place}
+use Rattle.futures_buffered_ordered.proofs.OrderedEntriesLemmas.{as_many_of, comes_before, comes_behind, empty_of, fewer_of, gives_alone, no_more_of, one_entry_more, one_entry_more_before, queue_answers, unused_none}
 use Rattle.futures_buffered_in_flight.proofs.InFlightLemmas.{came_under, polled_tags}
-use Rattle.futures_buffered_in_flight.proofs.InFlightQueueLemmas.{HasGrown, added_gives, flight_count, kept_room, polled_room, tag_counts, tagged_with, tags_freed}
+use Rattle.futures_buffered_in_flight.proofs.InFlightQueueLemmas.{HasGrown, added_gives, flight_count, kept_room, new_count, new_slots, polled_room, tag_counts, tagged_with, tags_freed}
 
 -- free slots, no entry, and a place for an entry of each slot
 pub new_keeps : {F A : Type 0} (grows : Bool) (q : Ordered (Flights F ℕ) A) (set : Flights F ℕ) (n : ℕ) → 0 < n → IsNewInFlight n set → q.set ≡ set → q.entries ≡ [] → (grows ≡ false → (n ≤ q.room) × (n < 2 ^ 62)) → KeepsInOrder grows q
 new_keeps {F} grows q set n some new is none places =
-    let slots : flight_slots set ≡ n = ap length (ap (λ s. s.places) new.0) ∙ length-replicate n None in
-    let same : flight_slots q.set ≡ n = ap (λ (s : Flights F ℕ). flight_slots s) is ∙ slots in
+    let same : flight_slots q.set ≡ n = ap (λ (s : Flights F ℕ). flight_slots s) is ∙ new_slots n set new in
     let empty : length q.entries ≡ 0 = ap length none in
-    let none_held : held_count {F = Place ℕ} (no_slots n) ≡ 0 = sum_by-replicate (λ (o : Option (Place ℕ)). cond (is_some o) 1 0) n None ∙ omega arith in
     record {
       numbered = new_is_numbered flights_with flight_count q none
           (λ i.
           let none_tagged : tagged_with i (no_slots n) ≡ 0 = sum_by-replicate (λ (o : Option (Place ℕ)). cond (has_tag i o) 1 0) n None ∙ omega arith in
           rw is (omega (arith, ap (λ s. tagged_with i s) new.0, none_tagged)))
-          (rw is (omega (arith, ap (λ (s : Slots (Place ℕ)). held_count s) new.0, none_held)));
+          (rw is (new_count n set new));
       some = omega (arith, same, some);
       bounded = λ b. record { bound = omega (arith, empty); fits = omega (arith, same, (places b).0); small = omega (arith, same, (places b).1) };
     }
@@ -78,18 +56,18 @@ module _ {F A : Type 0} (future : FutureOf F A) where
       let count = ap (λ (s : Slots (Place ℕ)). held_count s) p.0.gave.1 in
       let numbers : (i : ℕ) → flights_with i new ≡ flights_with i old = λ i. ap (λ slots. tagged_with i slots) p.0.gave.1 in
       let room = polled_room future old new (Ready None) p.0.gave in
-      grind arith
+      record { gave = p; empty = p.0.gave.0; fewer = omega (arith, count); numbers = λ i. omega (arith, numbers i); set = omega (arith, room.0); covered = tt; kept = p.0.kept; pollable = p.1 }
   polls_set old new (Ready (Some out)) cx left p =
       let came = p.0 in
       let gave = p.2.gave in
       let numbers : (i : ℕ) → flights_with i new + one_at i out.0 ≡ flights_with i old = λ i. omega (arith, ap (λ slots. tagged_with i slots) gave.freed, tags_freed i old.slots came.key.slot _ gave.was_held, ap (λ (o : ℕ × A). one_at i o.0) p.1) in
       let room = polled_room future old new (Ready (Some came)) gave in
-      grind arith
+      record { gave = p; empty = tt; fewer = omega (arith, gave.fewer); numbers = numbers; set = omega (arith, room.0); covered = tt; kept = p.2.kept; pollable = p.3 }
   polls_set old new Pending cx left p =
       let count = ap (λ (s : Slots (Place ℕ)). held_count s) p.0.gave.1 in
       let numbers : (i : ℕ) → flights_with i new ≡ flights_with i old = λ i. ap (λ slots. tagged_with i slots) p.0.gave.1 in
       let room = polled_room future old new Pending p.0.gave in
-      grind arith
+      record { gave = p; empty = tt; fewer = omega (arith, count); numbers = λ i. omega (arith, numbers i); set = omega (arith, room.0); covered = p.0.registered; kept = p.0.kept; pollable = p.1 }
 
   -- one poll of the futures by some task, told of the queue alone
   abbrev Gave : Flights F ℕ → Poll (Option (ℕ × A)) → Flights F ℕ → Type 0
@@ -197,18 +175,22 @@ module _ {F A : Type 0} (future : FutureOf F A) where
 
     pub answers : IsNumbered flights_with flight_count new → AnswersInTurn future grows old answer new cx after
     answers numbered =
-        let empty = empty_of Gave flight_count old new answer polled in
-        let fewer = fewer_of Gave flight_count old new answer polled in
-        let count = as_many_of Gave flight_count old new answer polled in
-        let bound : grows ≡ false → length new.entries ≤ flight_slots new.set = λ b. ((polled_keeps numbered).bounded b).bound in
-        let started = wakes old new answer cx after poll.gave in
-        let room = same in
-        grind arith
+        record {
+          gave = poll.gave;
+          empty = empty_of Gave flight_count old new answer polled;
+          fewer = fewer_of Gave flight_count old new answer polled;
+          same_count = as_many_of Gave flight_count old new answer polled;
+          holds = poll.queue.holds;
+          same_room = (same, poll.queue.room);
+          bound = λ b. ((polled_keeps numbered).bounded b).bound;
+          registered = poll.queue.covered;
+          started = wakes old new answer cx after poll.gave;
+          kept = poll.queue.kept;
+          again = poll.queue.pollable;
+        }
 
   -- a poll is one of a stream
   pub answers_in_turn : {grows : Bool} (old new : Ordered (Flights F ℕ) A) (answer : Poll (Option A)) (cx after : Context) → AnswersInTurn future grows old answer new cx after
       → StreamAnswers (stream_of (CanPollOrdered future) OrderedWaitsAt (ComesOfEach future)) old answer new cx after
   answers_in_turn old new answer cx after poll =
-      let given = alone old new answer cx after poll.gave in
-      answers_of (stream_of (CanPollOrdered future) OrderedWaitsAt (ComesOfEach future)) old new answer cx after (value_of Gave (TagGives future) still gave flight_count old new answer given) (rest_of Gave (TagGives future) still gave flight_count old new answer given)
-      (same_of Gave (TagGives future) still gave flight_count old new answer given) poll.again poll.registered poll.kept
+      queue_answers Gave (TagGives future) still gave flight_count old new (CanPollOrdered future) OrderedWaitsAt answer cx after (alone old new answer cx after poll.gave) poll.again poll.registered poll.kept

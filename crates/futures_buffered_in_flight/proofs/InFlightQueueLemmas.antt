@@ -1,24 +1,7 @@
 -- What a push and a poll leave of a set of futures in flight of which none is cancelled.
-use Rattle.std.proofs.Common.{count_by, get_or, length-set, set, ◌≡◌, ◌+◌, ◌<◌, ◌≤◌, ◌++◌, ℕ, zero, suc, Bool, true, false, cond, List, [], ◌∷◌, length, IsSome, is_some, Option, Some, None, refl, sym, subst, ap, ap₂, ◌∙◌, ◌⊎◌, inl, inr, arith}
-use Rattle.std.specs.List.{sum_by}
-use Rattle.std.specs.Prelude.{replicate}
-use Rattle.std.proofs.lemmas.List.{get_or-set_same, get_or-set_other, length-replicate, length_push}
-use Rattle.std.proofs.lemmas.List.Sums.{get_or-le-sum_by, sum_by-append, sum_by-set}
-use Rattle.std.proofs.lemmas.Option.{same_Some}
-use Rattle.std.proofs.lemmas.Bool.{cases_eq, eq-eqb, false≢true, true≢false}
-use Rattle.futures.proofs.EventLemmas.{get_or-push_default}
-use Rattle.futures.specs.declared.task.Poll.{Poll}
-use Rattle.futures.specs.declared.task.Poll.TheVariants.{Ready, Pending}
-use Rattle.futures.specs.declared.task.context.Context.{Context}
-use Rattle.futures_buffered_core.specs.SlotMap.{Slots, value_in, held_count, with_slot_freed, Inserts}
+use Rattle.futures_buffered_in_flight.proofs.Common.{count_by, get_or, length-set, set, ◌≡◌, ◌≢◌, ◌+◌, ◌<◌, ◌≤◌, ℕ, zero, suc, Bool, true, false, cond, List, length, IsSome, is_some, Option, Some, None, refl, sym, subst, ap, ap₂, ◌∙◌, ◌⊎◌, inl, inr, arith, sum_by, replicate, get_or-set_same, get_or-set_other, length-replicate, get_or-le-sum_by, sum_by-set, same_Some, cases_eq, eq-eqb, false≢true, true≢false, Poll, Ready, Pending, Context, Slots, value_in, held_count, with_slot_freed, Inserts, PushesInto, one_at, FutureOf, Flights, CanPollAll, IsNewInFlight, EntersAt, GivesByKey, HasNoRoom, IsHeld, IsUsedUp, MakesRoom, MayCome, PollsInFlight, TagGives, WentIn, flight_slots, without_key, CanPollQueue, KeepsRoom, MayRefuseNumber, PollsQueued, PushesQueued, RefusesNumbers, flights_with, has_tag, Came, Place, Key}
 use Rattle.futures_buffered_core.proofs.SlotMapLemmas.{value_within}
-use Rattle.futures_buffered_ordered.specs.Numbered.{PushesInto, one_at}
-use Rattle.futures_buffered_in_flight.specs.InFlight.{FutureOf, Flights, CanPollAll, IsNewInFlight, EntersAt, GivesByKey, HasNoRoom, IsUsedUp, MakesRoom, MakesSlot, MayCome, PollsInFlight, TagGives, WentIn, flight_slots}
-use Rattle.futures_buffered_in_flight.specs.InFlightQueue.{CanPollQueue, KeepsRoom, MayRefuseNumber, PollsQueued, PushesQueued, RefusesNumbers, flights_with, has_tag}
-use Rattle.futures_buffered_in_flight.specs.declared.in_flight.Came.{Came}
-use Rattle.futures_buffered_in_flight.specs.declared.in_flight.Place.{Place}
-use Rattle.futures_buffered_in_flight.specs.declared.run.Key.{Key}
-use Rattle.futures_buffered_in_flight.proofs.InFlightLemmas.{less_after, same_slots, wide_can_poll}
+use Rattle.futures_buffered_in_flight.proofs.InFlightLemmas.{Widens, same_gives, same_slots, tags_on, wide_can_poll, widens, widens_none}
 
 -- how many futures are held
 abbrev pub flight_count : {F T : Type 0} → Flights F T → ℕ
@@ -65,16 +48,17 @@ module _ {F A T : Type 0} (future : FutureOf F A) where
   its_place old new f tag key p =
       ap (λ ps. get_or ps key.slot None) p.went_in.now_held ∙ get_or-set_same old.slots.places key.slot (Some (record { tag = tag; push = key.push })) None p.went_in.within
 
-  -- what may come under a tag after a push might come before, or the pushed future may give it under its tag
-  held_or_pushed : (old new : Flights F T) (f : F) (tag : T) (key : Key) → EntersAt future old f tag key new → (out : T × A) → TagGives future new out → TagGives future old out ⊎ ((out.0 ≡ tag) × future.gives f out.1)
-  held_or_pushed old new f tag key p out h =
-      elim (cases_eq h.0.slot key.slot) [
+  -- what may come of a future that is held after a push might come before, or the pushed future may give it
+  pub held_after : (old new : Flights F T) (f : F) (tag : T) (key : Key) → EntersAt future old f tag key new → (k : Key) (held : T) (x : A) → IsHeld new k held → MayCome future new (k, Some x)
+      → ((k.slot ≢ key.slot) × IsHeld old k held × MayCome future old (k, Some x)) ⊎ ((k ≡ key) × (held ≡ tag) × future.gives f x)
+  held_after old new f tag key p k held x holds may =
+      elim (cases_eq k.slot key.slot) [
         | inl same ↦
-            let is : record { tag = out.0; push = h.0.push } ≡ record { tag = tag; push = key.push } = same_Some _ _ (sym h.1 ∙ (ap (λ i. value_in new.slots i) same ∙ its_place old new f tag key p)) in
-            let at_key : h.0 ≡ key = ap₂ (λ (slot push : ℕ). record { slot = slot; push = push }) same (ap (λ (place : Place T). place.push) is) in
-            inr (ap (λ (place : Place T). place.tag) is, p.own out.1 (subst (λ (k : Key). MayCome future new (k, Some out.1)) at_key h.2))
-        | inr other ↦ elim (p.others _ h.2) [
-          | inl was ↦ inl (h.0, sym (get_or-set_other old.slots.places key.slot h.0.slot _ None other) ∙ (sym (ap (λ ps. get_or ps h.0.slot None) p.went_in.now_held) ∙ h.1), was)
+            let is : record { tag = held; push = k.push } ≡ record { tag = tag; push = key.push } = same_Some _ _ (sym holds ∙ (ap (λ i. value_in new.slots i) same ∙ its_place old new f tag key p)) in
+            let at_key : k ≡ key = ap₂ (λ (slot push : ℕ). record { slot = slot; push = push }) same (ap (λ (place : Place T). place.push) is) in
+            inr (at_key, ap (λ (place : Place T). place.tag) is, p.own x (subst (λ (k : Key). MayCome future new (k, Some x)) at_key may))
+        | inr other ↦ elim (p.others _ may) [
+          | inl was ↦ inl (other, sym (get_or-set_other old.slots.places key.slot k.slot _ None other) ∙ (sym (ap (λ ps. get_or ps k.slot None) p.went_in.now_held) ∙ holds), was)
           | inr own ↦ absurd (other (ap (λ (k : Key). k.slot) own.0))
         ]
       ]
@@ -99,6 +83,12 @@ module _ {F A T : Type 0} (future : FutureOf F A) where
       let room = polled_room old new answer p.gave in
       record { each = p.again; none_cancelled = omega (arith, p.room, can.none_cancelled); some = omega (arith, room.0, can.some); bound = omega (arith, room.0, room.1, can.bound) }
 
+  -- a poll without keys
+  pub polled_without_key : (old new : Flights F T) (answer : Poll (Option (Came A T))) (cx left : Context) → CanPollQueue future old → PollsInFlight future old answer new cx left → PollsQueued future (λ came. came.output) old (without_key answer) new cx left
+  polled_without_key old new Pending cx left can p = (p, can_poll_again old new Pending cx left can p)
+  polled_without_key old new (Ready None) cx left can p = (p, can_poll_again old new (Ready None) cx left can p)
+  polled_without_key old new (Ready (Some came)) cx left can p = (came, refl, p, can_poll_again old new (Ready (Some came)) cx left can p)
+
 module _ {F A T B : Type 0} (future : FutureOf F A) (part : Came A T → B) where
   -- a poll that gave an output
   pub polled_part : (old new : Flights F T) (came : Came A T) (cx left : Context) → CanPollQueue future old → PollsInFlight future old (Ready (Some came)) new cx left → PollsQueued future part old (Ready (Some (part came))) new cx left
@@ -108,42 +98,17 @@ pub none_held : (P : Type 0) (n : ℕ) → count_by is_some (replicate {A = Opti
 none_held P zero = refl
 none_held P (suc n) = none_held P n
 
-module _ {F A T : Type 0} (future : FutureOf F A) where
-  -- a new set of some slots
-  pub new_can_poll : (n : ℕ) (s : Flights F T) → 0 < n → IsNewInFlight n s → CanPollAll future s → CanPollQueue future s
-  new_can_poll n s some new can =
-      let slots : flight_slots s ≡ n = ap (λ (s : Slots (Place T)). length s.places) new.0 ∙ length-replicate n None in
-      let held : flight_count s ≡ 0 = ap (λ (s : Slots (Place T)). held_count s) new.0 ∙ none_held (Place T) n in
-      record { each = can; none_cancelled = new.3; some = omega (arith, slots, some); bound = omega (arith, held) }
-
-tagged_more : (i : ℕ) (ps : List (Option (Place ℕ))) → count_by (has_tag i) (ps ++ None ∷ []) ≡ count_by (has_tag i) ps
-tagged_more i ps = sum_by-append (λ (o : Option (Place ℕ)). cond (has_tag i o) 1 0) ps (None ∷ []) ∙ omega arith
-
--- a set that makes a slot holds what it held
 module _ {F T : Type 0} where
-  abbrev Widens : Flights F T → Flights F T → Type 0
-  Widens old wide = (wide ≡ old) ⊎ MakesSlot old wide
+  -- a new set has n slots, and holds no future
+  pub new_slots : (n : ℕ) (s : Flights F T) → IsNewInFlight n s → flight_slots s ≡ n
+  new_slots n s new = ap (λ (s : Slots (Place T)). length s.places) new.0 ∙ length-replicate n None
 
-  widens : (old wide : Flights F T) → MakesRoom old wide → Widens old wide
-  widens old wide (inl same) = inl same.1
-  widens old wide (inr made) = inr made.1
+  pub new_count : (n : ℕ) (s : Flights F T) → IsNewInFlight n s → flight_count s ≡ 0
+  new_count n s new = ap (λ (s : Slots (Place T)). held_count s) new.0 ∙ none_held (Place T) n
 
-  wide_count : (old wide : Flights F T) → Widens old wide → flight_count wide ≡ flight_count old
-  wide_count old wide (inl same) = ap (λ s. flight_count s) same
-  wide_count old wide (inr made) = made.slots.2
-
-  wide_slots : (old wide : Flights F T) → Widens old wide → HasGrown old wide
-  wide_slots old wide (inl same) = let e = ap (λ s. flight_slots s) same in omega (arith, e)
-  wide_slots old wide (inr made) = let e = ap length made.slots.0 in omega (arith, e, length_push old.slots.places None)
-
-  wide_gives : {A : Type 0} (future : FutureOf F A) (old wide : Flights F T) (out : T × A) → Widens old wide → TagGives future wide out → TagGives future old out
-  wide_gives future old wide out (inl same) h = subst (λ s. TagGives future s out) same h
-  wide_gives future old wide out (inr made) h =
-      (h.0, sym (ap (λ ps. get_or ps h.0.slot None) made.slots.0 ∙ get_or-push_default old.slots.places None h.0.slot) ∙ h.1, less_after future old wide (λ came run. rw (sym made.futures.0) run) made.futures.1 _ h.2)
-
-wide_numbers : {F : Type 0} (i : ℕ) (old wide : Flights F ℕ) → Widens old wide → flights_with i wide ≡ flights_with i old
-wide_numbers i old wide (inl same) = ap (λ s. flights_with i s) same
-wide_numbers i old wide (inr made) = ap (λ ps. count_by (has_tag i) ps) made.slots.0 ∙ tagged_more i old.slots.places
+  pub new_can_poll : {A : Type 0} (future : FutureOf F A) (n : ℕ) (s : Flights F T) → 0 < n → IsNewInFlight n s → CanPollAll future s → CanPollQueue future s
+  new_can_poll future n s some new can =
+      record { each = can; none_cancelled = new.3; some = omega (arith, new_slots n s new, some); bound = omega (arith, new_count n s new) }
 
 module _ {F T : Type 0} where
   pub room_self : (grows : Bool) (s : Flights F T) → KeepsRoom grows s s
@@ -157,19 +122,22 @@ module _ {F T : Type 0} where
 -- what a push adds, with a slot that it made first if the set grows
 module _ {F A T : Type 0} (future : FutureOf F A) (old new : Flights F T) (f : F) (tag : T) where
   went : (grows : Bool) → WentIn future grows tag old f new → (wide : Flights F T) × Widens old wide × (key : Key) × EntersAt future wide f tag key new
-  went false p = (old, inl refl, p.0, p.1)
+  went false p = (old, widens_none old, p.0, p.1)
   went true p = (p.1.0, widens old p.1.0 p.1.1, p.0, p.1.2)
 
   pub added_one : (grows : Bool) → WentIn future grows tag old f new → flight_count new ≡ flight_count old + 1
-  added_one grows p = let w = went grows p in omega (arith, w.3.one_more, wide_count old w.0 w.1)
+  added_one grows p = let w = went grows p in omega (arith, w.3.one_more, w.1.counts is_some refl)
 
   pub added_gives : (grows : Bool) → WentIn future grows tag old f new → (out : T × A) → TagGives future new out → TagGives future old out ⊎ ((out.0 ≡ tag) × future.gives f out.1)
   added_gives grows p out h =
       let w = went grows p in
-      elim (held_or_pushed future w.0 new f tag w.2 w.3 out h) [ inl was ↦ inl (wide_gives future old w.0 out w.1 was) | inr own ↦ inr own ]
+      elim (held_after future w.0 new f tag w.2 w.3 h.0 out.0 out.1 h.1 h.2) [
+        | inl was ↦ inl (tags_on future old w.0 w.1.places (same_gives future old w.0 w.1.futures.0 w.1.futures.1) out (h.0, was.1, was.2))
+        | inr own ↦ inr (own.1, own.2)
+      ]
 
   added_slots : (grows : Bool) → WentIn future grows tag old f new → HasGrown old new
-  added_slots grows p = let w = went grows p in omega (arith, wide_slots old w.0 w.1, same_slots future w.0 new f tag w.2 w.3)
+  added_slots grows p = let w = went grows p in omega (arith, w.1.slots, same_slots future w.0 new f tag w.2 w.3)
 
   pub kept_room : (grows : Bool) → WentIn future grows tag old f new → KeepsRoom grows old new
   kept_room false p = same_slots future old new f tag p.0 p.1
@@ -179,23 +147,18 @@ module _ {F A : Type 0} (future : FutureOf F A) where
   added_numbers : (grows : Bool) (old new : Flights F ℕ) (f : F) (number : ℕ) → WentIn future grows number old f new → (i : ℕ) → flights_with i new ≡ flights_with i old + one_at i number
   added_numbers grows old new f number p i =
       let w = went future old new f number grows p in
-      tags_inserted i w.0.slots new.slots w.2.slot _ w.3.went_in ∙ ap (λ n. n + one_at i number) (wide_numbers i old w.0 w.1)
+      tags_inserted i w.0.slots new.slots w.2.slot _ w.3.went_in ∙ ap (λ n. n + one_at i number) (w.1.counts (has_tag i) refl)
 
   -- the set may be polled, and room was made
   pub wide_can_queue : (old wide : Flights F ℕ) → CanPollQueue future old → MakesRoom old wide → CanPollQueue future wide
   wide_can_queue old wide can made =
-      let slots = wide_slots old wide (widens old wide made) in
-      let count = wide_count old wide (widens old wide made) in
-      record {
-        each = wide_can_poll future old wide can.each made;
-        none_cancelled = none made;
-        some = omega (arith, slots, can.some);
-        bound = omega (arith, slots, count, can.bound);
-      }
-    where
-      none : MakesRoom old wide → wide.cancelled ≡ 0
-      none (inl same) = ap (λ (s : Flights F ℕ). s.cancelled) same.1 ∙ can.none_cancelled
-      none (inr made) = made.1.rest.0 ∙ can.none_cancelled
+      let w = widens old wide made in
+      record { each = wide_can_poll future old wide can.each made; none_cancelled = w.rest.0 ∙ can.none_cancelled; some = omega (arith, w.slots, can.some); bound = omega (arith, w.slots, w.counts is_some refl, can.bound) }
+
+  -- such a set may be polled, also if no room was made
+  pub still_can_queue : (old new : Flights F ℕ) (made : Bool) → CanPollQueue future old → (made ≡ true → MakesRoom old new) → (made ≡ false → HasNoRoom old × (new ≡ old)) → CanPollQueue future new
+  still_can_queue old new true can room none = wide_can_queue old new can (room refl)
+  still_can_queue old new false can room none = subst (λ s. CanPollQueue future s) (sym (none refl).1) can
 
   -- the set took a future with a number; it made a slot first if it grows and had no room
   pub taken : (grows : Bool) (old wide new : Flights F ℕ) (f : F) (number : ℕ) (key : Key) → (grows ≡ true → MakesRoom old wide) → (grows ≡ false → wide ≡ old) → CanPollQueue future wide → flight_count wide < flight_slots wide → EntersAt future wide f number key new → PushesInto (PushesQueued future grows) flight_count flights_with HasGrown old (record { future = f; number = number }) new

@@ -1,3 +1,4 @@
+pub mod Common
 pub mod InFlightLemmas
 pub mod FromIterLemmas
 pub mod InFlightQueueLemmas

@@ -3,3 +3,4 @@ pub mod InFlightTurns
 pub mod InFlightQueue
 pub mod InFlightOrdered
 pub mod InFlightMerge
+pub mod Waiting

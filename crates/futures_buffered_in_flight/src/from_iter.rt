@@ -105,7 +105,7 @@ impl<F: Future<Output = A>, A: Drop, K: Kind> FuturesOrderedBy<F, A, K> {
     /// A bounded queue has room for as many as slots.
     ///
     /// Fails, allocates and takes time as `from_iter` of a set does.
-    #[tactic(auto, using(crate::proofs::FromIterLemmas::none_pushed, crate::proofs::FromIterLemmas::holds_in_turn, crate::proofs::FromIterLemmas::few_slots))]
+    #[tactic(auto, using(crate::proofs::FromIterLemmas::none_pushed, crate::proofs::FromIterLemmas::few_slots))]
     pub fn from_iter<I: IntoIterator<Item = F>>(alloc: Global, iter: I) -> Result<Self, NewFault>
         requires finite { IsFiniteSource (items_of I.IntoIterator I.IntoIter.Iterator iter) }
         requires fit { EachDrawn (items_of I.IntoIterator I.IntoIter.Iterator iter) F.can_poll }

@@ -3,12 +3,12 @@
 //! A set owns the slots, and a `FuturesUnordered` of `futures`, which polls the futures that were pushed or woken. A
 //! `FuturesUnorderedBy` is of one of two kinds: `FuturesUnorderedBounded` has a fixed number of slots, and
 //! `FuturesUnordered` makes slots.
-ghost use Rattle.std.specs.Prelude.{◌≡◌, ◌+◌, ◌^◌, ◌≤◌, ◌↔◌, ◌⊎◌, ◌<◌, Bool, false, true, [], IfOk, IfErr, OnErr, OnOk, IfNone, IfSome};
-ghost use Rattle.std.specs.Prelude.{IsSome, IsTrue, None, length};
+ghost use Rattle.std.specs.Prelude.{◌≡◌, ◌+◌, ◌-◌, ◌^◌, ◌≤◌, ◌↔◌, ◌⊎◌, ◌<◌, Bool, false, true, [], IfOk, IfErr, OnErr, OnOk, IfNone, IfSome};
+ghost use Rattle.std.specs.Prelude.{IsSome, IsTrue, None, length, min};
 ghost use Rattle.std.specs.List.{AllByRecursion};
 ghost use Rattle.futures.specs.Queued.{AllPollable, AnyGives};
 ghost use Rattle.futures_buffered_core.specs.Made.{MakesSlots};
-ghost use Rattle.futures_buffered_core.specs.SlotMap.{held_count, no_slots, slot_count};
+ghost use Rattle.futures_buffered_core.specs.SlotMap.{Inserts, held_count, no_slots, slot_count};
 ghost use Rattle.futures_buffered_in_flight.specs.InFlight.{CanPollAll, Cancels, CancelsOrNone, EntersAt, GivesWithKey, HasNoRoom};
 ghost use Rattle.futures_buffered_in_flight.specs.InFlight.{IsHeld, IsNewInFlight, PushesInFlight};
 ghost use Rattle.futures_buffered_in_flight.specs.InFlight.{flight_slots, room_taken, run_count, runs_in};
@@ -16,7 +16,7 @@ ghost use Rattle.futures_buffered_in_flight.specs.InFlightTurns.{Flies};
 ghost use Rattle.futures_buffered_in_flight.specs.declared.run.Run.{Run};
 ghost use Rattle.futures_buffered_in_flight.specs.declared.run.Waits.{Waits};
 
-use crate::bells::{Freed, Tables};
+use crate::bells::{Bells, Freed, Tables};
 use crate::run::{Key, Run, Waits};
 use futures::Future;
 use futures::stream::FuturesUnordered;
@@ -25,6 +25,7 @@ use futures_buffered_core::slot_map::PinSlotMap;
 use std::alloc::Global;
 use std::collections::VecDeque;
 use std::marker::{Model, PhantomData};
+use std::sync::Arc;
 
 /// What a slot keeps of its future: the caller's tag, and the number of the push.
 #[derive(Drop)]
@@ -252,22 +253,26 @@ impl<F: Future<Output: Drop>, T: Drop, K> FuturesUnorderedBy<F, T, K> {
         self.drop_all();
     }
 
-    // Makes the set of `futures` if there is none. Returns whether there is one.
-    fn make_running(&mut self) -> bool
+    // Returns the bells for the run of this push, and makes the set of `futures` if there is none. Returns `None` if
+    // that fails, and for the last number.
+    fn bells_for(&mut self, push: u64) -> Option<Arc<Bells>>
         ensures runs { (runs_in self.new.running ≡ runs_in self.old.running)
             × (run_count self.new.running ≡ run_count self.old.running) }
-        ensures some { IsTrue result → IsSome self.new.running }
+        ensures some { IfSome result (λ _. IsSome self.new.running × (push + 1 < 2 ^ 64)) }
         ensures slots { (self.new.slots ≡ self.old.slots) × (self.new.next ≡ self.old.next) }
         ensures room { (self.new.cancelled ≡ self.old.cancelled) × (self.new.waiting ≡ self.old.waiting) }
     {
+        if push == u64::MAX {
+            return None;
+        }
         if self.running.is_some() {
-            return true;
+            return self.bells.newest();
         }
         let Ok(running) = FuturesUnordered::new(self.alloc) else {
-            return false;
+            return None;
         };
         self.running = Some(running);
-        true
+        self.bells.newest()
     }
 
     // Pushes the future into the set of `futures`. Returns the future if that fails, and under the last number.
@@ -276,9 +281,9 @@ impl<F: Future<Output: Drop>, T: Drop, K> FuturesUnorderedBy<F, T, K> {
         requires held { AllPollable (λ (run : Run F). F.can_poll run.future) (runs_in self.old.running) }
         requires new { F.can_poll value.future }
         ensures pollable { AllPollable (λ (run : Run F). F.can_poll run.future) (runs_in self.new.running) }
-        ensures gives { (came : _) → AnyGives (GivesWithKey F.gives) (runs_in self.new.running) came
+        ensures gives { OnOk result ((came : _) → AnyGives (GivesWithKey F.gives) (runs_in self.new.running) came
             → AnyGives (GivesWithKey F.gives) (runs_in self.old.running) came
-            ⊎ ((came.0 ≡ value.key) × IfSome came.1 (F.gives value.future)) }
+            ⊎ ((came.0 ≡ value.key) × IfSome came.1 (F.gives value.future))) }
         ensures refused { OnErr result ((came : _) → AnyGives (GivesWithKey F.gives) (runs_in self.new.running) came
             → AnyGives (GivesWithKey F.gives) (runs_in self.old.running) came) }
         ensures one_more { OnOk result
@@ -289,13 +294,7 @@ impl<F: Future<Output: Drop>, T: Drop, K> FuturesUnorderedBy<F, T, K> {
         ensures slots { (self.new.slots ≡ self.old.slots) × (self.new.next ≡ self.old.next) }
         ensures room { (self.new.cancelled ≡ self.old.cancelled) × (self.new.waiting ≡ self.old.waiting) }
     {
-        if value.key.push == u64::MAX {
-            return Err(value);
-        }
-        if !self.make_running() {
-            return Err(value);
-        }
-        let Some(bells) = self.bells.newest() else {
+        let Some(bells) = self.bells_for(value.key.push) else {
             return Err(value);
         };
         let Some(running) = &mut self.running else {
@@ -312,7 +311,7 @@ impl<F: Future<Output: Drop>, T: Drop, K> FuturesUnorderedBy<F, T, K> {
     }
 
     // Pushes the future into the set of `futures`, or the future waits. With the last number it waits permanently.
-    #[tactic(auto, using(crate::proofs::InFlightLemmas::flies, crate::proofs::InFlightLemmas::left_waiting))]
+    #[tactic(auto, using(crate::proofs::InFlightLemmas::flies))]
     pub(crate) fn start(&mut self, value: Waits<F>)
         requires held { AllPollable (λ (run : Run F). F.can_poll run.future) (runs_in self.old.running) }
         requires waits { AllByRecursion (λ (waits : Waits F). F.can_poll waits.future) self.old.waiting }
@@ -325,6 +324,25 @@ impl<F: Future<Output: Drop>, T: Drop, K> FuturesUnorderedBy<F, T, K> {
         }
     }
 
+    // Takes the first free slot for a future under this tag. Returns the key of this push.
+    fn take_slot(&mut self, tag: T) -> Key
+        requires { room_taken self.old < flight_slots self.old }
+        ensures numbered { (result.push ≡ self.old.next) × (self.old.next < 2 ^ 64)
+            × (self.new.next ≡ min (self.old.next + 1) (2 ^ 64 - 1)) }
+        ensures went_in { Inserts self.old.slots result.slot (record { tag = tag; push = result.push }) self.new.slots }
+        ensures one_more { held_count self.new.slots ≡ held_count self.old.slots + 1 }
+        ensures rest { (self.new.running ≡ self.old.running) × (self.new.waiting ≡ self.old.waiting)
+            × (self.new.cancelled ≡ self.old.cancelled) }
+        ensures room { length self.new.waiting + 1 ≤ room_taken self.new }
+    {
+        let push = self.next;
+        let Ok(slot) = self.slots.insert_with(Place { tag, push }, |place| place) else {
+            unreachable!()
+        };
+        self.next = push.saturating_add(1);
+        Key { push, slot }
+    }
+
     // Wakes a task whose poll was pending, if a future waits for memory.
     fn call_back(&self) {
         if !self.waiting.is_empty() {
@@ -334,19 +352,13 @@ impl<F: Future<Output: Drop>, T: Drop, K> FuturesUnorderedBy<F, T, K> {
 
     /// Pushes as `push_tagged` does, while fewer futures are held, or cancelled and not dropped yet, than there are
     /// slots. After 2^64 - 1 pushes the set holds the future, and never polls it.
-    #[tactic(auto, using(crate::proofs::InFlightLemmas::entered))]
     pub fn push_any(&mut self, future: F, tag: T) -> Key
         requires room { room_taken self.old < flight_slots self.old }
         requires held { CanPollAll F.Future self.old }
         requires fit { F.can_poll future }
         ensures { EntersAt F.Future self.old future tag result self.new }
     {
-        let push = self.next;
-        let Ok(slot) = self.slots.insert_with(Place { tag, push }, |place| place) else {
-            unreachable!()
-        };
-        let key = Key { push, slot };
-        self.next = push.saturating_add(1);
+        let key = self.take_slot(tag);
         self.start(Waits { key, future });
         self.call_back();
         key
@@ -362,6 +374,7 @@ impl<F: Future<Output: Drop>, T: Drop, K> FuturesUnorderedBy<F, T, K> {
     /// In a bounded set, takes the same time at any capacity. In a growing set, takes time in proportion to the number
     /// of its tables of bells, one for each doubling. Wakes the task that polled the future last. After polls by two
     /// tasks, it may wake the earlier task alone. Another future may be woken too, and is then polled once more.
+    #[tactic(auto, using(crate::proofs::InFlightLemmas::same_can_poll))]
     pub fn cancel(&mut self, key: Key) -> Option<T>
         requires { CanPollAll F.Future self.old }
         ensures cancels { CancelsOrNone self.old key result self.new }

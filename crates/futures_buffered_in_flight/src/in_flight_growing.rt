@@ -64,17 +64,16 @@ impl<F: Future<Output: Drop>, T: Drop, K: Kind> FuturesUnorderedBy<F, T, K> {
 
 impl<F: Future<Output: Drop>, K: Kind> FuturesUnorderedBy<F, (), K> {
     // Pushes as `admit` does, without a tag.
-    #[tactic(auto, using(crate::proofs::InFlightLemmas::wide_can_poll, crate::proofs::InFlightLemmas::admitted, crate::proofs::InFlightLemmas::turned_away))]
     pub(crate) fn admit_untagged(&mut self, future: F) -> Result<Key, F>
         requires held { CanPollAll F.Future self.old }
         requires fit { F.can_poll future }
         ensures pushes { PushesInFlight F.Future K.GROWS self.old future tt future result self.new }
         ensures again { CanPollAll F.Future self.new }
     {
-        if !self.make_room() {
-            return Err(future);
+        match self.admit(future, ()) {
+            Ok(key) => Ok(key),
+            Err((back, ())) => Err(back),
         }
-        Ok(self.push_any(future, ()))
     }
 
     /// Pushes each item, in order, as `try_push` of a bounded set or `push` of a growing set does. Returns the first

@@ -13,6 +13,7 @@ ghost use Rattle.futures_buffered_in_flight.specs.InFlightMerge.{streams_held};
 
 use crate::in_flight::{Came, FuturesUnorderedBy, Kind};
 use crate::in_flight_growing::FuturesUnordered;
+use crate::keyless::without_keys;
 use crate::run::Key;
 use futures::stream::StreamFuture;
 use futures::task::{Context, Poll};
@@ -25,7 +26,6 @@ use std::marker::Model;
 
 impl<St: Stream<Item: Drop>, K: Kind> FuturesUnorderedBy<StreamFuture<St>, u64, K> {
     // Adds the stream under the number of this push. Returns the stream if there is no room for it.
-    #[tactic(auto, using(crate::proofs::InFlightLemmas::wide_can_poll, crate::proofs::InFlightMergeLemmas::pushed))]
     fn push_stream(&mut self, stream: St) -> Result<Key, St>
         requires held { CanPollAll (next_of St.Stream) self.old }
         requires new { St.can_poll stream }
@@ -41,7 +41,7 @@ impl<St: Stream<Item: Drop>, K: Kind> FuturesUnorderedBy<StreamFuture<St>, u64, 
     }
 
     // Polls the streams once. At most one stream ends.
-    #[tactic(auto, using(crate::proofs::InFlightMergeLemmas::stays_pending, crate::proofs::InFlightMergeLemmas::came_none, crate::proofs::InFlightMergeLemmas::item, crate::proofs::InFlightMergeLemmas::all_ended, crate::proofs::InFlightMergeLemmas::one_ended, crate::proofs::InFlightMergeLemmas::room_again))]
+    #[tactic(auto, using(crate::proofs::InFlightMergeLemmas::room_again))]
     fn poll_streams(&mut self, cx: &mut Context<'_>) -> Poll<Option<Came<St::Item>>>
         requires { CanPollAll (next_of St.Stream) self.old }
         ensures { PollsMerge St.Stream self.old result self.new cx.old cx.new }
@@ -121,15 +121,6 @@ impl<St: Drop> MergeBounded<St> {
         ensures { IsTrue result ↔ (self.now.limit ≤ streams_held self.now) }
     {
         self.limit <= self.len()
-    }
-
-    // Returns the name under which the merge is printed: the name that a caller writes.
-    fn merge_name(&self) -> &'static str {
-        if self.limit == usize::MAX {
-            "MergeUnbounded"
-        } else {
-            "MergeBounded"
-        }
     }
 }
 
@@ -272,11 +263,7 @@ impl<St: Stream<Item: Drop>> Stream for MergeBounded<St> {
         requires { CanPollStreams St.Stream self.old }
         ensures { PollsUnkeyed St.Stream self.old result self.new cx.old cx.new }
     {
-        match self.poll_next_keyed(cx) {
-            Poll::Pending => Poll::Pending,
-            Poll::Ready(None) => Poll::Ready(None),
-            Poll::Ready(Some(came)) => Poll::Ready(Some(came.output)),
-        }
+        without_keys(self.poll_next_keyed(cx))
     }
 }
 
@@ -302,7 +289,12 @@ impl<St: Drop> SizeHint for MergeBounded<St> {
 /// Prints the number of streams held. The printed name says whether there is a limit.
 impl<St: Drop> fmt::Debug for MergeBounded<St> {
     fn fmt<W: fmt::Write>(&self, f: &mut fmt::Formatter<W>) -> fmt::Result {
-        f.debug_struct(self.merge_name())
+        let name = if self.limit == usize::MAX {
+            "MergeUnbounded"
+        } else {
+            "MergeBounded"
+        };
+        f.debug_struct(name)
             .field("len", &self.len())
             .finish_non_exhaustive()
     }

@@ -25,7 +25,7 @@ impl<F: Future<Output: Drop>, T: Drop, K> FuturesUnorderedBy<F, T, K> {
 
     // Drops the future that waited longest, if it was cancelled. Otherwise pushes it into the set of `futures`, or it
     // waits again.
-    #[tactic(auto, using(crate::proofs::InFlightLemmas::dropped, crate::proofs::InFlightLemmas::started))]
+    #[tactic(auto, using(crate::proofs::InFlightLemmas::started))]
     fn start_one(&mut self)
         requires { CanPollAll F.Future self.old }
         ensures { Starts F.Future self.old self.new }
@@ -62,7 +62,7 @@ impl<F: Future<Output: Drop>, T: Drop, K> FuturesUnorderedBy<F, T, K> {
     }
 
     // Polls the set of `futures` once. A pending poll leaves some futures there.
-    #[tactic(auto, using(crate::proofs::InFlightLemmas::narrows_after, crate::proofs::InFlightLemmas::narrows_within))]
+    #[tactic(auto, using(crate::proofs::InFlightLemmas::narrows_within))]
     fn poll_running(&mut self, cx: &mut Context<'_>) -> Poll<Option<(Key, Option<F::Output>)>>
         requires { AllPollable (λ (run : Run F). F.can_poll run.future) (runs_in self.old.running) }
         ensures pollable { AllPollable (λ (run : Run F). F.can_poll run.future) (runs_in self.new.running) }

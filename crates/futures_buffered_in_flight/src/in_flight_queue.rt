@@ -6,6 +6,7 @@ ghost use Rattle.futures_buffered_in_flight.specs.InFlightQueue.{CanPollQueue, M
 ghost use Rattle.futures_buffered_in_flight.specs.InFlightQueue.{PushesQueued, RefusesNumbers, flights_with};
 
 use crate::in_flight::{FuturesUnorderedBounded, FuturesUnorderedBy, Kind};
+use crate::keyless::without_keys;
 use futures::Future;
 use futures::task::{Context, Poll};
 use futures_buffered_ordered::numbered::Numbered;
@@ -28,16 +29,11 @@ impl<F: Future<Output: Drop>> FuturesUnorderedBounded<F> {
 
     /// Polls as `poll_next_keyed` does. Returns an output of one of the futures without its key, or `None` if and only
     /// if no future is held.
-    #[tactic(auto, using(crate::proofs::InFlightQueueLemmas::can_poll_again))]
     pub fn poll_queued(&mut self, cx: &mut Context<'_>) -> Poll<Option<F::Output>>
         requires { CanPollQueue F.Future self.old }
         ensures { PollsQueued F.Future (λ came. came.output) self.old result self.new cx.old cx.new }
     {
-        match self.poll_next_keyed(cx) {
-            Poll::Pending => Poll::Pending,
-            Poll::Ready(None) => Poll::Ready(None),
-            Poll::Ready(Some(came)) => Poll::Ready(Some(came.output)),
-        }
+        without_keys(self.poll_next_keyed(cx))
     }
 }
 
@@ -61,7 +57,7 @@ impl<F: Future<Output: Drop>, K> FuturesUnorderedBy<F, usize, K> {
 
 impl<F: Future<Output: Drop>, K: Kind> FuturesUnorderedBy<F, usize, K> {
     // Makes a slot if the set grows and is full. Returns whether a slot is free then.
-    #[tactic(auto, using(crate::proofs::InFlightQueueLemmas::may_refuse_grown, crate::proofs::InFlightQueueLemmas::may_refuse_bounded, crate::proofs::InFlightQueueLemmas::refuses_grown, crate::proofs::InFlightQueueLemmas::refuses_bounded, crate::proofs::InFlightQueueLemmas::wide_can_queue))]
+    #[tactic(auto, using(crate::proofs::InFlightQueueLemmas::may_refuse_grown, crate::proofs::InFlightQueueLemmas::may_refuse_bounded, crate::proofs::InFlightQueueLemmas::refuses_grown, crate::proofs::InFlightQueueLemmas::refuses_bounded, crate::proofs::InFlightQueueLemmas::still_can_queue))]
     fn make_slot_free(&mut self) -> bool
         requires { CanPollQueue F.Future self.old }
         ensures grown { IsTrue result → K.GROWS ≡ true → MakesRoom self.old self.new }

@@ -3,6 +3,7 @@ ghost use Rattle.futures_buffered_core.specs.SlotMap.{held_count};
 ghost use Rattle.futures_buffered_in_flight.specs.InFlight.{CanPollAll, ComesFromSlots, FlightsWaitAt};
 
 use crate::in_flight::{FuturesUnorderedBy, Kind};
+use crate::keyless::without_keys;
 use futures::task::{Context, Poll};
 use futures::{Future, Stream};
 use futures_buffered_unordered::fused::{FusedStream, SizeHint};
@@ -19,11 +20,7 @@ impl<F: Future<Output: Drop>, T: Drop, K> Stream for FuturesUnorderedBy<F, T, K>
 
     /// Polls as `poll_next_keyed` does. Returns an output without key and tag.
     fn poll_next(&mut self, cx: &mut Context<'_>) -> Poll<Option<F::Output>> {
-        match self.poll_next_keyed(cx) {
-            Poll::Pending => Poll::Pending,
-            Poll::Ready(None) => Poll::Ready(None),
-            Poll::Ready(Some(came)) => Poll::Ready(Some(came.output)),
-        }
+        without_keys(self.poll_next_keyed(cx))
     }
 }
 

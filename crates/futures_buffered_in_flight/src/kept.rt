@@ -10,6 +10,7 @@ ghost use Rattle.futures_buffered_in_flight.specs.InFlightOrdered.{PushesOrComes
 use crate::in_flight::{Came, FuturesUnorderedBounded, FuturesUnorderedBy, Kind};
 use crate::in_flight_growing::FuturesUnordered;
 use crate::in_flight_ordered::{FuturesOrdered, FuturesOrderedBounded, FuturesOrderedBy};
+use crate::keyless::without_keys;
 use crate::run::Key;
 use futures::task::{Context, Poll};
 use futures::{Future, Stream};
@@ -141,11 +142,7 @@ impl<F: Future<Output: Drop>, T: Drop, K> Stream for Kept<FuturesUnorderedBy<F, 
 
     /// Polls as `poll_next_keyed` does. Returns an output without key and tag.
     fn poll_next(&mut self, cx: &mut Context<'_>) -> Poll<Option<F::Output>> {
-        match self.poll_next_keyed(cx) {
-            Poll::Pending => Poll::Pending,
-            Poll::Ready(None) => Poll::Ready(None),
-            Poll::Ready(Some(came)) => Poll::Ready(Some(came.output)),
-        }
+        without_keys(self.poll_next_keyed(cx))
     }
 }
 

@@ -8,7 +8,8 @@
 //! - `bells`: how a cancel reaches a run, and wakes it.
 //! - `in_flight`: `FuturesUnorderedBounded`, at most n futures, each with a key by which it can be cancelled;
 //!   `in_flight_growing` has `FuturesUnordered`, the set of any number, and `in_flight_polls` the polls of both;
-//!   `in_flight_stream` has both as a stream, and `in_flight_queue` both as an adaptor or a queue holds them.
+//!   `in_flight_stream` has both as a stream, and `in_flight_queue` both as an adaptor or a queue holds them; `keyless`
+//!   takes the keys from an answer.
 //! - `in_flight_ordered`: `FuturesOrderedBounded` and `FuturesOrdered`, queues with pushes at both ends, whose outputs
 //!   come from the front; `in_flight_ordered_stream` has both as a stream.
 //! - `in_flight_merge`: `MergeBounded` and `MergeUnbounded`, one type, a set of futures of the next items of streams;
@@ -30,6 +31,7 @@ mod in_flight_polls;
 mod in_flight_queue;
 mod in_flight_stream;
 pub mod kept;
+mod keyless;
 pub mod run;
 pub mod waiting;
 

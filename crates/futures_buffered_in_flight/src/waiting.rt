@@ -1,8 +1,11 @@
 //! Sets, queues and merges in flight, while a task waits for their next output.
 ghost use Rattle.std.specs.Prelude.{◌≡◌, Some, IfOk, IsSomeAnd};
-ghost use Rattle.futures_buffered_in_flight.specs.InFlight.{CameInFlight, CanPollAll, FlightsWaitAt};
-ghost use Rattle.futures_buffered_in_flight.specs.InFlightMerge.{CameOfMerge, CanPollStreams, MergedWaitsAt};
-ghost use Rattle.futures_buffered_in_flight.specs.InFlightOrdered.{CameInTurn, CanPollOrdered, OrderedWaitsAt};
+ghost use Rattle.futures.specs.Poll.{OnPending};
+ghost use Rattle.futures.specs.Task.{Covers, Keeps};
+ghost use Rattle.futures_buffered_in_flight.specs.InFlight.{CameInFlight, CanPollAll};
+ghost use Rattle.futures_buffered_in_flight.specs.InFlightMerge.{CameOfMerge, CanPollStreams};
+ghost use Rattle.futures_buffered_in_flight.specs.InFlightOrdered.{CameInTurn, CanPollOrdered};
+ghost use Rattle.futures_buffered_in_flight.specs.Waiting.{PollsUntil};
 
 use crate::in_flight::{Came, FuturesUnorderedBy, Kind};
 use crate::in_flight_merge::MergeBounded;
@@ -15,6 +18,25 @@ use std::io;
 use std::random::RandomSource;
 use std::sync::Wait;
 
+/// A stream whose next output comes with what is known of the stream then.
+pub trait NextOutput: Stream {
+    ghost use Rattle.std.specs.Prelude.{Option};
+
+    /// An output, or an output with its key and its tag.
+    type Output;
+
+    // What polls until an output, or until `None`, make of the stream.
+    ghost came: { Self → Option Self.Output → Self → Type 0 };
+
+    /// Polls the stream once.
+    fn poll_next_output(&mut self, cx: &mut Context<'_>) -> Poll<Option<Self::Output>>
+        requires { Self.can_poll self.old }
+        ensures until { PollsUntil came self.old result self.new }
+        ensures again { OnPending result (Self.can_poll self.new) }
+        ensures registered { OnPending result (Covers cx.new (Self.needs self.new)) }
+        ensures kept { Keeps cx.old cx.new };
+}
+
 /// A future of the next output of a set, a queue or a merge, or of its `None`. It returns the set, the queue or the
 /// merge too, so what is known of these stays known.
 #[derive(Drop)]
@@ -23,26 +45,34 @@ pub struct Waiting<S> {
     held: Option<S>,
 }
 
-impl<F: Future<Output: Drop>, T: Drop, K> Future for Waiting<FuturesUnorderedBy<F, T, K>> {
-    type Output = (Option<Came<F::Output, T>>, FuturesUnorderedBy<F, T, K>);
+impl<S: NextOutput> Future for Waiting<S> {
+    type Output = (Option<S::Output>, S);
 
-    // A set that was returned is not there to be polled.
-    ghost can_poll = { λ waiting. IsSomeAnd waiting.held (CanPollAll F.Future) };
+    // What was returned is not there to be polled.
+    ghost can_poll = { λ waiting. IsSomeAnd waiting.held S.can_poll };
 
-    ghost needs = { λ waiting place. IsSomeAnd waiting.held (λ set. FlightsWaitAt set place) };
+    ghost needs = { λ waiting place. IsSomeAnd waiting.held (λ polled. S.needs polled place) };
 
-    ghost gives = { λ waiting given. IsSomeAnd waiting.held
-        (λ set. CameInFlight F.Future set given.0 given.1) };
+    ghost gives = { λ waiting given. IsSomeAnd waiting.held (λ polled. S.came polled given.0 given.1) };
 
-    #[tactic(auto, using(crate::proofs::WaitingLemmas::came_at_once, crate::proofs::WaitingLemmas::came_later))]
     fn poll(&mut self, cx: &mut Context<'_>) -> Poll<Self::Output> {
-        let Some(set) = &mut self.held else {
+        let Some(polled) = &mut self.held else {
             unreachable!()
         };
-        let Poll::Ready(came) = set.poll_next_keyed(cx) else {
+        let Poll::Ready(came) = polled.poll_next_output(cx) else {
             return Poll::Pending;
         };
         Poll::Ready((came, self.held.take().unwrap()))
+    }
+}
+
+impl<F: Future<Output: Drop>, T: Drop, K> NextOutput for FuturesUnorderedBy<F, T, K> {
+    type Output = Came<F::Output, T>;
+
+    ghost came = { CameInFlight F.Future };
+
+    fn poll_next_output(&mut self, cx: &mut Context<'_>) -> Poll<Option<Came<F::Output, T>>> {
+        self.poll_next_keyed(cx)
     }
 }
 
@@ -69,26 +99,13 @@ impl<F: Future<Output: Drop>, T: Drop, K> FuturesUnorderedBy<F, T, K> {
     }
 }
 
-impl<F: Future<Output = A>, A: Drop, K: Kind> Future for Waiting<FuturesOrderedBy<F, A, K>> {
-    type Output = (Option<A>, FuturesOrderedBy<F, A, K>);
+impl<F: Future<Output = A>, A: Drop, K: Kind> NextOutput for FuturesOrderedBy<F, A, K> {
+    type Output = A;
 
-    // A queue that was returned is not there to be polled.
-    ghost can_poll = { λ waiting. IsSomeAnd waiting.held (CanPollOrdered F.Future) };
+    ghost came = { CameInTurn F.Future };
 
-    ghost needs = { λ waiting place. IsSomeAnd waiting.held (λ queue. OrderedWaitsAt queue place) };
-
-    ghost gives = { λ waiting given. IsSomeAnd waiting.held
-        (λ queue. CameInTurn F.Future queue given.0 given.1) };
-
-    #[tactic(auto, using(crate::proofs::WaitingLemmas::came_in_turn_at_once, crate::proofs::WaitingLemmas::came_in_turn_later))]
-    fn poll(&mut self, cx: &mut Context<'_>) -> Poll<Self::Output> {
-        let Some(queue) = &mut self.held else {
-            unreachable!()
-        };
-        let Poll::Ready(came) = queue.poll_output(cx) else {
-            return Poll::Pending;
-        };
-        Poll::Ready((came, self.held.take().unwrap()))
+    fn poll_next_output(&mut self, cx: &mut Context<'_>) -> Poll<Option<A>> {
+        self.poll_output(cx)
     }
 }
 
@@ -115,26 +132,13 @@ impl<F: Future<Output = A>, A: Drop, K: Kind> FuturesOrderedBy<F, A, K> {
     }
 }
 
-impl<St: Stream<Item: Drop>> Future for Waiting<MergeBounded<St>> {
-    type Output = (Option<St::Item>, MergeBounded<St>);
+impl<St: Stream<Item: Drop>> NextOutput for MergeBounded<St> {
+    type Output = St::Item;
 
-    // A merge that was returned is not there to be polled.
-    ghost can_poll = { λ waiting. IsSomeAnd waiting.held (CanPollStreams St.Stream) };
+    ghost came = { CameOfMerge St.Stream };
 
-    ghost needs = { λ waiting place. IsSomeAnd waiting.held (λ merge. MergedWaitsAt merge place) };
-
-    ghost gives = { λ waiting given. IsSomeAnd waiting.held
-        (λ merge. CameOfMerge St.Stream merge given.0 given.1) };
-
-    #[tactic(auto, using(crate::proofs::WaitingLemmas::came_of_merge_at_once, crate::proofs::WaitingLemmas::came_of_merge_later))]
-    fn poll(&mut self, cx: &mut Context<'_>) -> Poll<Self::Output> {
-        let Some(merge) = &mut self.held else {
-            unreachable!()
-        };
-        let Poll::Ready(came) = merge.poll_next(cx) else {
-            return Poll::Pending;
-        };
-        Poll::Ready((came, self.held.take().unwrap()))
+    fn poll_next_output(&mut self, cx: &mut Context<'_>) -> Poll<Option<St::Item>> {
+        self.poll_next(cx)
     }
 }
 

@@ -1,5 +1,4 @@
-use Rattle.std.proofs.Common.{◌≡◌, ◌≤◌, vec_len}
-use Rattle.futures_buffered_table.specs.declared.answer.TheConstants.{MAX_CAPACITY}
+use Rattle.futures_buffered_in_flight.proofs.Common.{◌≡◌, ◌≤◌, vec_len, MAX_CAPACITY}
 use Rattle.futures_buffered_in_flight.proofs.from_iter.draw.Given as goal
 
 abbrev pub invariant-loop-item : goal.invariant-loop-item

@@ -1,5 +1,4 @@
-use Rattle.std.proofs.Common.{rules, arith}
-use Rattle.std.proofs.lemmas.Grind.{common_steps}
+use Rattle.futures_buffered_in_flight.proofs.Common.{rules, arith, common_steps}
 use Rattle.futures_buffered_in_flight.proofs.FromIterLemmas.{pushed_one}
 use Rattle.futures_buffered_in_flight.proofs.from_iter.push_all.Goals as goal
 

@@ -1,5 +1,4 @@
-use Rattle.std.proofs.Common.{◌≡◌, ◌++◌, length}
-use Rattle.std.specs.Vec.Iter.{into_iter_items}
+use Rattle.futures_buffered_in_flight.proofs.Common.{◌≡◌, ◌++◌, length, into_iter_items}
 use Rattle.futures_buffered_in_flight.proofs.FromIterLemmas.{PushedSoFar}
 use Rattle.futures_buffered_in_flight.proofs.from_iter.push_all.Given as goal
 

@@ -1,8 +1,4 @@
-use Rattle.std.proofs.Common.{rules, arith}
-use Rattle.std.proofs.lemmas.Fn.{FoldsTo-push}
-use Rattle.std.proofs.lemmas.Grind.{common_steps}
-use Rattle.std.proofs.lemmas.List.{length_push}
-use Rattle.futures_buffered_in_flight.specs.InFlightOrdered.{EntersBack}
+use Rattle.futures_buffered_in_flight.proofs.Common.{rules, arith, FoldsTo-push, common_steps, length_push, EntersBack}
 use Rattle.futures_buffered_in_flight.proofs.InFlightQueueLemmas.{room_on}
 use Rattle.futures_buffered_in_flight.proofs.from_iter.push_in_turn.Goals as goal
 

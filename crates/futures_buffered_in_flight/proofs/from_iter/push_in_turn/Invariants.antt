@@ -1,8 +1,4 @@
-use Rattle.std.proofs.Common.{◌≡◌, ◌++◌, length}
-use Rattle.std.specs.List.{FoldsTo}
-use Rattle.std.specs.Vec.Iter.{into_iter_items}
-use Rattle.futures_buffered_in_flight.specs.InFlightOrdered.{CanPollOrdered, EntersBack}
-use Rattle.futures_buffered_in_flight.specs.InFlightQueue.{KeepsRoom}
+use Rattle.futures_buffered_in_flight.proofs.Common.{◌≡◌, ◌++◌, length, FoldsTo, into_iter_items, CanPollOrdered, EntersBack, KeepsRoom}
 use Rattle.futures_buffered_in_flight.proofs.from_iter.push_in_turn.Given as goal
 
 abbrev pub invariant-futures : goal.invariant-futures

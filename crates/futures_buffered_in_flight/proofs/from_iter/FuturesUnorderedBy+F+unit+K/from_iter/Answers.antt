@@ -1,4 +1,4 @@
-use Rattle.futures_buffered_core.specs.Drawn.{items_of}
+use Rattle.futures_buffered_in_flight.proofs.Common.{items_of}
 use Rattle.futures_buffered_in_flight.proofs.FromIterLemmas.{fit_drawn}
 use Rattle.futures_buffered_in_flight.proofs.from_iter.FuturesUnorderedBy+F+unit+K.from_iter.Goals as goal
 

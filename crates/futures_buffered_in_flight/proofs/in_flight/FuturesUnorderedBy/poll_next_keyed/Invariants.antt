@@ -1,8 +1,4 @@
-use Rattle.std.specs.Prelude.{◌≡◌, ◌<◌, ◌⊎◌, []}
-use Rattle.futures.specs.Task.{Keeps}
-use Rattle.futures_buffered_core.specs.SlotMap.{held_count}
-use Rattle.futures_buffered_unordered.specs.FuturesUnorderedBounded.{IsWoken}
-use Rattle.futures_buffered_in_flight.specs.InFlightTurns.{Starts}
+use Rattle.futures_buffered_in_flight.proofs.Common.{◌≡◌, ◌<◌, ◌⊎◌, [], Keeps, held_count, IsWoken, Starts}
 use Rattle.futures_buffered_in_flight.proofs.in_flight.FuturesUnorderedBy.poll_next_keyed.Given as goal
 
 abbrev pub invariant-turns : goal.invariant-turns

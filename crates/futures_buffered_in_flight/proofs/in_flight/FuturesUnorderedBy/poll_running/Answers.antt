@@ -1,5 +1,4 @@
-use Rattle.std.proofs.Common.{rules}
-use Rattle.futures_buffered_in_flight.specs.InFlight.{GivesWithKey}
+use Rattle.futures_buffered_in_flight.proofs.Common.{rules, GivesWithKey}
 use Rattle.futures_buffered_in_flight.proofs.InFlightLemmas.{narrows_after, some_left}
 use Rattle.futures_buffered_in_flight.proofs.in_flight.FuturesUnorderedBy.poll_running.Goals as goal
 

@@ -1,5 +1,4 @@
-use Rattle.std.proofs.Common.{◌++◌, ◌∷◌, [], List, ap₂, ◌∙◌}
-use Rattle.futures_buffered_in_flight.specs.declared.run.Waits.{Waits}
+use Rattle.futures_buffered_in_flight.proofs.Common.{◌++◌, ◌∷◌, [], List, ap₂, ◌∙◌, Waits}
 use Rattle.futures_buffered_in_flight.proofs.InFlightLemmas.{left_waiting}
 use Rattle.futures_buffered_in_flight.proofs.in_flight.FuturesUnorderedBy.start.Goals as goal
 

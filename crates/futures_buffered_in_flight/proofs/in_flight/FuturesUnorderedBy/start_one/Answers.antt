@@ -1,4 +1,4 @@
-use Rattle.std.proofs.Common.{rules, refl}
+use Rattle.futures_buffered_in_flight.proofs.Common.{rules, refl}
 use Rattle.futures_buffered_in_flight.proofs.InFlightLemmas.{dropped}
 use Rattle.futures_buffered_in_flight.proofs.in_flight.FuturesUnorderedBy.start_one.Goals as goal
 

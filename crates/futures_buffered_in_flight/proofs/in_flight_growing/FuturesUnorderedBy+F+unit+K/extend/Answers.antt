@@ -1,6 +1,4 @@
-use Rattle.std.proofs.Common.{rules}
-use Rattle.std.proofs.lemmas.Fn.{FoldsTo-push}
-use Rattle.futures_buffered_in_flight.specs.InFlight.{WentIn}
+use Rattle.futures_buffered_in_flight.proofs.Common.{rules, FoldsTo-push, WentIn}
 use Rattle.futures_buffered_in_flight.proofs.InFlightQueueLemmas.{kept_room, room_on}
 use Rattle.futures_buffered_in_flight.proofs.in_flight_growing.FuturesUnorderedBy+F+unit+K.extend.Goals as goal
 

@@ -1,6 +1,4 @@
-use Rattle.std.specs.List.{FoldsTo}
-use Rattle.futures_buffered_in_flight.specs.InFlight.{CanPollAll, WentIn}
-use Rattle.futures_buffered_in_flight.specs.InFlightQueue.{KeepsRoom}
+use Rattle.futures_buffered_in_flight.proofs.Common.{FoldsTo, CanPollAll, WentIn, KeepsRoom}
 use Rattle.futures_buffered_in_flight.proofs.in_flight_growing.FuturesUnorderedBy+F+unit+K.extend.Given as goal
 
 abbrev pub invariant-loop-future : goal.invariant-loop-future

@@ -1,5 +1,4 @@
-use Rattle.std.proofs.Common.{rules, ap}
-use Rattle.futures_buffered_in_flight.specs.InFlightMerge.{Streams, next_of}
+use Rattle.futures_buffered_in_flight.proofs.Common.{rules, ap, Streams, next_of}
 use Rattle.futures_buffered_in_flight.proofs.InFlightLemmas.{wide_can_poll}
 use Rattle.futures_buffered_in_flight.proofs.InFlightMergeLemmas.{pushed}
 use Rattle.futures_buffered_in_flight.proofs.in_flight_merge.FuturesUnorderedBy+StreamFuture+St+u64+K.push_stream.Goals as goal

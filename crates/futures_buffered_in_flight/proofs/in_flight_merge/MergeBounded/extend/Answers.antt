@@ -1,6 +1,4 @@
-use Rattle.std.proofs.Common.{rules, ◌∙◌}
-use Rattle.std.proofs.lemmas.Fn.{FoldsTo-push}
-use Rattle.futures_buffered_in_flight.specs.InFlightMerge.{StreamWentIn}
+use Rattle.futures_buffered_in_flight.proofs.Common.{rules, ◌∙◌, FoldsTo-push, StreamWentIn}
 use Rattle.futures_buffered_in_flight.proofs.in_flight_merge.MergeBounded.extend.Goals as goal
 
 pub try_push-requires-clause-new : goal.try_push-requires-clause-new

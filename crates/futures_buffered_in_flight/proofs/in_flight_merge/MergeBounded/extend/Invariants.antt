@@ -1,6 +1,4 @@
-use Rattle.std.specs.Prelude.{◌≡◌}
-use Rattle.std.specs.List.{FoldsTo}
-use Rattle.futures_buffered_in_flight.specs.InFlightMerge.{CanPollStreams, StreamWentIn}
+use Rattle.futures_buffered_in_flight.proofs.Common.{◌≡◌, FoldsTo, CanPollStreams, StreamWentIn}
 use Rattle.futures_buffered_in_flight.proofs.in_flight_merge.MergeBounded.extend.Given as goal
 
 abbrev pub invariant-loop-stream : goal.invariant-loop-stream

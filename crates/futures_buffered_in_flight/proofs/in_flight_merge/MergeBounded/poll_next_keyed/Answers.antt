@@ -1,9 +1,6 @@
-use Rattle.std.proofs.Common.{◌≡◌, rules, subst}
-use Rattle.futures_buffered_in_flight.specs.InFlight.{CanPollAll}
-use Rattle.futures_buffered_in_flight.specs.InFlightMerge.{Streams, next_of}
+use Rattle.futures_buffered_in_flight.proofs.Common.{rules}
+use Rattle.futures_buffered_in_flight.proofs.InFlightMergeLemmas.{can_poll_same}
 use Rattle.futures_buffered_in_flight.proofs.in_flight_merge.MergeBounded.poll_next_keyed.Goals as goal
 
 pub poll_streams-requires : goal.poll_streams-requires
-poll_streams-requires g c =
-    let same : c.args.self.now.set ≡ c.in-Some.set = search rules in
-    subst (λ (s : Streams g.row.St.Denot). CanPollAll (next_of g.St.Stream) s) same c.requires
+poll_streams-requires g c = can_poll_same g.St.Stream c.args.self.now.set c.in-Some.set c.requires (search rules)

@@ -1,6 +1,4 @@
-use Rattle.std.proofs.Common.{rules}
-use Rattle.futures_buffered_ordered.specs.OrderedEntries.{AddsBack}
-use Rattle.futures.specs.Runs.{Chains, Leads, Ends}
+use Rattle.futures_buffered_in_flight.proofs.Common.{rules, AddsBack, Chains, Leads, Ends}
 use Rattle.futures_buffered_in_flight.proofs.InFlightOrderedLemmas.{enters_back, pushed}
 use Rattle.futures_buffered_in_flight.proofs.in_flight_ordered.FuturesOrderedBy.add_back.Goals as goal
 

@@ -1,6 +1,4 @@
-use Rattle.std.proofs.Common.{rules}
-use Rattle.futures.specs.Runs.{Leads}
-use Rattle.futures_buffered_ordered.specs.OrderedEntries.{AddsFront}
+use Rattle.futures_buffered_in_flight.proofs.Common.{rules, Leads, AddsFront}
 use Rattle.futures_buffered_in_flight.proofs.InFlightOrderedLemmas.{enters_front, pushed}
 use Rattle.futures_buffered_in_flight.proofs.in_flight_ordered.FuturesOrderedBy.add_front.Goals as goal
 

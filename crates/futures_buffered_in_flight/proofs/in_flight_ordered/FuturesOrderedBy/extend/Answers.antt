@@ -1,6 +1,4 @@
-use Rattle.std.proofs.Common.{rules}
-use Rattle.std.proofs.lemmas.Fn.{FoldsTo-push}
-use Rattle.futures_buffered_in_flight.specs.InFlightOrdered.{EntersBack}
+use Rattle.futures_buffered_in_flight.proofs.Common.{rules, FoldsTo-push, EntersBack}
 use Rattle.futures_buffered_in_flight.proofs.InFlightQueueLemmas.{room_on}
 use Rattle.futures_buffered_in_flight.proofs.in_flight_ordered.FuturesOrderedBy.extend.Goals as goal
 

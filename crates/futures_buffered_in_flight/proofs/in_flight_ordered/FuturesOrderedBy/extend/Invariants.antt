@@ -1,6 +1,4 @@
-use Rattle.std.specs.List.{FoldsTo}
-use Rattle.futures_buffered_in_flight.specs.InFlightOrdered.{CanPollOrdered, EntersBack}
-use Rattle.futures_buffered_in_flight.specs.InFlightQueue.{KeepsRoom}
+use Rattle.futures_buffered_in_flight.proofs.Common.{FoldsTo, CanPollOrdered, EntersBack, KeepsRoom}
 use Rattle.futures_buffered_in_flight.proofs.in_flight_ordered.FuturesOrderedBy.extend.Given as goal
 
 abbrev pub invariant-loop-future : goal.invariant-loop-future

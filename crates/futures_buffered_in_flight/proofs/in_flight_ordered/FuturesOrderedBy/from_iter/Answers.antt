@@ -1,5 +1,4 @@
-use Rattle.std.proofs.Common.{rules, vec_len}
-use Rattle.futures_buffered_core.specs.Drawn.{items_of}
+use Rattle.futures_buffered_in_flight.proofs.Common.{rules, vec_len, items_of}
 use Rattle.futures_buffered_in_flight.proofs.FromIterLemmas.{fit_drawn, holds_in_turn}
 use Rattle.futures_buffered_in_flight.proofs.in_flight_ordered.FuturesOrderedBy.from_iter.Goals as goal
 

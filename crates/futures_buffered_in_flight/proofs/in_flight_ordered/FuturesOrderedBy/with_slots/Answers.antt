@@ -1,6 +1,4 @@
-use Rattle.std.proofs.Common.{rules, sym, subst, ℕ, arith}
-use Rattle.futures_buffered_in_flight.specs.InFlight.{Flights, IsNewInFlight}
-use Rattle.futures_buffered_in_flight.specs.InFlightQueue.{CanPollQueue}
+use Rattle.futures_buffered_in_flight.proofs.Common.{rules, sym, subst, ℕ, arith, Flights, IsNewInFlight, CanPollQueue}
 use Rattle.futures_buffered_in_flight.proofs.InFlightOrderedLemmas.{new_keeps}
 use Rattle.futures_buffered_in_flight.proofs.InFlightQueueLemmas.{new_can_poll}
 use Rattle.futures_buffered_in_flight.proofs.in_flight_ordered.FuturesOrderedBy.with_slots.Goals as goal

@@ -1,6 +1,5 @@
-use Rattle.futures_buffered_in_flight.specs.declared.in_flight.Came.{Came}
-use Rattle.futures_buffered_in_flight.proofs.InFlightQueueLemmas.{polled_part}
+use Rattle.futures_buffered_in_flight.proofs.InFlightQueueLemmas.{polled_without_key}
 use Rattle.futures_buffered_in_flight.proofs.in_flight_queue.FuturesUnorderedBounded+F.poll_queued.Goals as goal
 
-pub returns-in-Ready-Some : goal.returns-in-Ready-Some
-returns-in-Ready-Some g c = polled_part g.F.Future (λ (came : Came g.row.F-Output.Denot (Unit {0})). came.output) c.args.self.now c.poll_next_keyed.new.self c.in-Ready-Some.came c.args.cx.now c.poll_next_keyed.new.cx c.requires (rw c.in-Ready-Some.field-0-is at c.in-Ready-Some.ensures)
+pub returns : goal.returns
+returns g c = rw c.without_keys.ensures (polled_without_key g.F.Future c.args.self.now c.poll_next_keyed.new.self c.poll_next_keyed.result c.args.cx.now c.poll_next_keyed.new.cx c.requires c.poll_next_keyed.ensures)

@@ -1,5 +1,4 @@
-use Rattle.std.proofs.Common.{ℕ}
-use Rattle.futures_buffered_in_flight.specs.declared.in_flight.Came.{Came}
+use Rattle.futures_buffered_in_flight.proofs.Common.{ℕ, Came}
 use Rattle.futures_buffered_in_flight.proofs.InFlightQueueLemmas.{polled_part}
 use Rattle.futures_buffered_in_flight.proofs.in_flight_queue.FuturesUnorderedBy+F+usize+K.poll_with_number.Goals as goal
 

@@ -1,8 +1,8 @@
-use Rattle.std.proofs.Common.{arith}
+use Rattle.futures_buffered_unordered.proofs.StreamAnswersLemmas.{after_item, while_pending}
 use Rattle.futures_buffered_in_flight.proofs.InFlightOrderedLemmas.{answers_in_turn}
 use Rattle.futures_buffered_in_flight.proofs.kept.KeptFuturesOrderedByStream.TheImpl.Goals as goal
 
 pub poll_next-tells : goal.poll_next-tells
 poll_next-tells g x c =
     let answers = answers_in_turn g.F.Future _ _ _ _ _ c.ensures in
-    grind arith
+    record { value = answers.value; rest = answers.rest; goes = after_item _ tt; again = while_pending _ tt; same = answers.same; registered = answers.registered; kept = answers.kept }
