@@ -130,13 +130,13 @@ module _ {R F W A S : Type 0} (rule : PollOneOf R F W A) (source : ReadySourceOf
   pub takes_after : (old new : Bounded F S) (then : S) (answer : Poll (ℕ × A)) (cx task left : Context) → source.steps.registers old.source then → source.registers_poll old.source cx task → Keeps cx task
       → TakesNames rule source (record old { source = then }) answer new task left → RegistersAndTakes rule source old answer new cx left
   takes_after old new then answer cx task left registers heard keeps takes = record {
-      source_then = then;
-      task_then = task;
-      registers = registers;
-      registers_task = heard;
-      takes = takes;
-      kept = λ fact holds. takes.kept fact (keeps fact holds);
-    }
+    source_then = then;
+    task_then = task;
+    registers = registers;
+    registers_task = heard;
+    takes = takes;
+    kept = λ fact holds. takes.kept fact (keeps fact holds);
+  }
 
 -- a round of a set whose task is registered already
 pub takes_registered : {R F W A S : Type 0} (rule : PollOneOf R F W A) (source : ReadySourceOf S W) (old new : Bounded F S) (answer : Poll (ℕ × A)) (cx left : Context) → TakesNames rule source old answer new cx left → RegistersAndTakes rule (unless_registered true source) old answer new cx left
