@@ -1,13 +1,17 @@
-//! Futures of the crate `futures`: in a join, and pushed by hand into a set or a queue.
+//! Futures of the crate `futures`: in a join, and pushed by hand into a set or a queue. Its streams, in a merge.
 ghost use Rattle.futures_buffered.specs.InFlight.{CanPollAll};
+ghost use Rattle.futures_buffered.specs.InFlightMerge.{CanPollStreams};
 ghost use Rattle.futures_buffered.specs.InFlightOrdered.{CanPollOrdered};
 
 use crate::show::{Host, print_all};
 use anyhow::bail;
 use futures::channel::oneshot::{Canceled, Receiver, channel};
 use futures::executor::block_on;
-use futures::{Future, FutureExt, future};
-use futures_buffered::in_flight::{FuturesOrderedBounded, FuturesUnorderedBounded, join_all};
+use futures::task::{Context, Poll};
+use futures::{Future, FutureExt, Stream, future, ready, stream};
+use futures_buffered::in_flight::{
+    FuturesOrderedBounded, FuturesUnorderedBounded, IterExt, MergeBounded, join_all,
+};
 use std::alloc::{AllocError, Global};
 use std::io;
 
@@ -101,5 +105,38 @@ pub fn digits(rt: &impl Host) -> anyhow::Result<()> {
         bail!("there is no room for them");
     }
     println!(rt; "{}", number_of(rt, queue)?)?;
+    Ok(())
+}
+
+// Adds the numbers of the feeds. A feed is cancelled at its first number from 100 on.
+#[derive(Drop)]
+struct Sum<St> {
+    feeds: MergeBounded<St>,
+    sum: u64,
+}
+
+impl<St: Stream<Item = u64>> Future for Sum<St> {
+    type Output = u64;
+
+    ghost can_poll = { λ sum. CanPollStreams St.Stream sum.feeds };
+
+    fn poll(&mut self, cx: &mut Context<'_>) -> Poll<u64> {
+        let Some(came) = ready!(self.feeds.poll_next_keyed(cx)) else {
+            return Poll::Ready(self.sum);
+        };
+        if came.output < 100 {
+            self.sum = self.sum.wrapping_add(came.output);
+        } else {
+            self.feeds.cancel(came.key);
+        }
+        cx.yield_now()
+    }
+}
+
+pub fn feeds(rt: &impl Host) -> anyhow::Result<()> {
+    let alloc = rt.alloc();
+    let numbers = vec![in alloc; stream::iter(1..4u64), stream::iter(98..102)]?;
+    let feeds = numbers.merge(alloc)?;
+    println!(rt; "{}", block_on(rt, Sum { feeds, sum: 0 })?)?;
     Ok(())
 }

@@ -25,6 +25,7 @@ fn main(rt: HostRuntime) -> anyhow::Result<()> {
     in_flight::summed(&rt)?;
     in_flight::at_both_ends(&rt)?;
     in_flight::digits(&rt)?;
+    in_flight::feeds(&rt)?;
     sources::one_caller(&rt)?;
     sources::listed_names(&rt)?;
     sources::marks_and_takings(&rt)?;
