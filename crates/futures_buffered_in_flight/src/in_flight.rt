@@ -352,6 +352,7 @@ impl<F: Future<Output: Drop>, T: Drop, K> FuturesUnorderedBy<F, T, K> {
 
     /// Pushes as `push_tagged` does, while fewer futures are held, or cancelled and not dropped yet, than there are
     /// slots. After 2^64 - 1 pushes the set holds the future, and never polls it.
+    #[tactic(auto, using(crate::proofs::InFlightLemmas::entered))]
     pub fn push_any(&mut self, future: F, tag: T) -> Key
         requires room { room_taken self.old < flight_slots self.old }
         requires held { CanPollAll F.Future self.old }
