@@ -24,11 +24,40 @@ type Untagged<K> = Kept<Set<(), K>>;
 
 type Pushed = Result<Key, (NumberFuture, usize)>;
 
-/// A set whose tags are the numbers of its futures, and the key of the last push of each number.
+/// The key of the last push of each number.
+pub type Keys = Vec<Option<Key>>;
+
+/// Makes the place of a key, before its push. Whether there was memory for it.
+pub fn make_place(keys: &mut Keys, id: usize) -> bool {
+    for _ in keys.len()..id.saturating_add(1) {
+        if !memory::push(keys, None) {
+            return false;
+        }
+    }
+    true
+}
+
+/// Keeps the key of a push: the reply to it.
+pub fn keep_key(keys: &mut Keys, id: usize, key: Key) -> Reply {
+    if let Some(place) = keys.get_mut(id) {
+        *place = Some(key);
+    }
+    Reply::Done(())
+}
+
+/// The key of the last push of this number, if it was pushed.
+pub fn key_of(keys: &[Option<Key>], id: usize) -> Option<Key> {
+    match keys.get(id) {
+        Some(key) => *key,
+        None => None,
+    }
+}
+
+/// A set whose tags are the numbers of its futures.
 #[derive(Drop)]
 pub struct KitSet<K> {
     set: Tagged<K>,
-    keys: Vec<Option<Key>>,
+    keys: Keys,
 }
 
 /// What a bounded set and a set that grows do each in its own way.
@@ -74,37 +103,22 @@ fn ask_set<T: Drop, K: Kind>(set: &Set<T, K>, word: &str, text: &mut Text) -> Re
 }
 
 impl<K: Pushing> KitSet<K> {
-    // Makes the place of its key before the push.
     fn push(&mut self, value: NumberFuture, id: usize) -> Reply {
-        for _ in self.keys.len()..id.saturating_add(1) {
-            if !memory::push(&mut self.keys, None) {
-                return Reply::Refused;
-            }
+        if !make_place(&mut self.keys, id) {
+            return Reply::Refused;
         }
         let was_full = self.set.get().is_full();
         match K::push_by_number(&mut self.set, value, id) {
-            Ok(key) => {
-                if let Some(place) = self.keys.get_mut(id) {
-                    *place = Some(key);
-                }
-                Reply::Done(())
-            }
+            Ok(key) => keep_key(&mut self.keys, id, key),
             Err((_value, tag)) if tag == id => refusal::<K>(was_full),
             Err(_) => Reply::Nothing,
-        }
-    }
-
-    fn key_of(&self, id: usize) -> Option<Key> {
-        match self.keys.get(id) {
-            Some(key) => *key,
-            None => None,
         }
     }
 
     // The reply with an output, whose key and tag are of one push.
     fn given(&self, came: Came<Output, usize>) -> Reply {
         let Came { key, tag, output } = came;
-        if self.key_of(tag) == Some(key) {
+        if key_of(self.keys.as_slice(), tag) == Some(key) {
             output.reply()
         } else {
             Reply::Nothing
@@ -112,7 +126,7 @@ impl<K: Pushing> KitSet<K> {
     }
 
     fn cancel(&mut self, id: usize) -> Reply {
-        let Some(key) = self.key_of(id) else {
+        let Some(key) = key_of(self.keys.as_slice(), id) else {
             return Reply::Nothing;
         };
         match self.set.cancel(key) {
@@ -123,7 +137,7 @@ impl<K: Pushing> KitSet<K> {
     }
 
     fn contains(&self, id: usize) -> Reply {
-        match self.key_of(id) {
+        match key_of(self.keys.as_slice(), id) {
             Some(key) => Reply::Is(self.set.get().contains(key)),
             None => Reply::Nothing,
         }
