@@ -177,11 +177,15 @@ impl<F: FnMut(TryUnitFuture) -> TryUnitFuture + Drop> Subject<AllTypes>
     }
 
     fn call(&mut self, word: &str, _: &[usize], _: &SharedWorld, text: &mut Text) -> Reply {
-        match (word, self.buffer()) {
-            ("len", Some(buffer)) => Reply::Number(buffer.len()),
-            ("len", None) => Reply::Number(0),
-            ("has_stream", Some(buffer)) => Reply::Is(buffer.stream().is_some()),
-            ("has_stream", None) => Reply::Is(false),
+        match word {
+            "len" => match self.buffer() {
+                Some(buffer) => Reply::Number(buffer.len()),
+                None => Reply::Number(0),
+            },
+            "has_stream" => match self.buffer() {
+                Some(buffer) => Reply::Is(buffer.stream().is_some()),
+                None => Reply::Is(false),
+            },
             _ => ask!(self, word, text, Is is_terminated),
         }
     }

@@ -42,34 +42,43 @@ pub enum Reply {
     Stuck(usize),
 }
 
+impl Reply {
+    // The words of a reply without a number.
+    fn words(&self) -> &'static str {
+        match *self {
+            Reply::Nothing => "bad",
+            Reply::Done(()) => "ok",
+            Reply::Pending => "pending",
+            Reply::Ready => "ready",
+            Reply::ReadyOk => "ready ok",
+            Reply::None => "none",
+            Reply::Full => "full",
+            Reply::TooLarge => "too large",
+            Reply::Refused => "memory",
+            Reply::Changed => "refused with a change",
+            Reply::Is(true) => "yes",
+            Reply::Is(false) => "no",
+            Reply::IsWoken(true) => "woken",
+            Reply::IsWoken(false) => "quiet",
+            Reply::Back => "back",
+            _ => "",
+        }
+    }
+}
+
 impl Display for Reply {
     fn fmt<W: fmt::Write>(&self, f: &mut fmt::Formatter<W>) -> fmt::Result {
         match *self {
-            Reply::Nothing => write!(f, "bad"),
-            Reply::Done(()) => write!(f, "ok"),
-            Reply::Written => Ok(()),
-            Reply::Pending => write!(f, "pending"),
             Reply::Some(number) => write!(f, "some {number}"),
             Reply::SomeOk(number) => write!(f, "some ok {number}"),
             Reply::SomeError(error) => write!(f, "some err {error}"),
-            Reply::Ready => write!(f, "ready"),
-            Reply::ReadyOk => write!(f, "ready ok"),
             Reply::ReadyError(error) => write!(f, "ready err {error}"),
-            Reply::None => write!(f, "none"),
-            Reply::Full => write!(f, "full"),
-            Reply::TooLarge => write!(f, "too large"),
-            Reply::Refused => write!(f, "memory"),
-            Reply::Changed => write!(f, "refused with a change"),
             Reply::Number(number) => write!(f, "{number}"),
             Reply::Hint((least, Some(most))) => write!(f, "{least} {most}"),
             Reply::Hint((least, None)) => write!(f, "{least} -"),
-            Reply::Is(true) => write!(f, "yes"),
-            Reply::Is(false) => write!(f, "no"),
-            Reply::IsWoken(true) => write!(f, "woken"),
-            Reply::IsWoken(false) => write!(f, "quiet"),
-            Reply::Back => write!(f, "back"),
             Reply::Wrong(place) => write!(f, "wrong {place}"),
             Reply::Stuck(place) => write!(f, "stuck {place}"),
+            _ => f.write_str(self.words()),
         }
     }
 }
