@@ -25,8 +25,8 @@ pub use Rattle.futures_buffered_unordered.specs.FuturesUnorderedBounded.{IsWoken
 pub use Rattle.futures_buffered_unordered.specs.StreamAnswers.{StreamAnswers, stream_of}
 pub use Rattle.futures_buffered_ordered.specs.Numbered.{PollsNumberedSet, PushesInto, one_at}
 pub use Rattle.futures_buffered_ordered.specs.OrderedEntries.{AddsBack, AddsFront, BesideTask, HandsBack, IsUnused, MayRefuse, Ordered, OrderedGives, PollsOrdered, QueueIsAtBound, SetYields, with_task}
-pub use Rattle.futures_buffered_in_flight.specs.InFlight.{AnySlotGives, CameInFlight, CanPollAll, ComesByKey, ComesFromSlots, EntersAt, FliesInOrder, Flights, FlightsGiveNoMore, FlightsWaitAt, FutureOf, GivesByKey, GivesWithKey, HasNoRoom, IsHeld, IsNewInFlight, IsUsedUp, MakesRoom, MayCome, PollsInFlight, PushesInFlight, SlotGives, TagGives, WaitGives, WentIn, flight_slots, room_taken, run_count, runs_in}
-pub use Rattle.futures_buffered_in_flight.specs.InFlightMerge.{AnswersNoMore, AnswersThen, AnyAnswers, AnyStream, CameOfMerge, CanPollStreams, ComesFromMerged, ComesOfStream, GivesAnswer, HoldsStream, HoldsStreams, IsNewMerge, Merged, MergedWaitsAt, OneGoesOn, OneStreamEndsAtMost, PollsMerge, PollsUnkeyed, StreamEnters, StreamOf, StreamWentIn, Streams, StreamsGoOn, made_set, next_of, streams_held, without_key}
+pub use Rattle.futures_buffered_in_flight.specs.InFlight.{AnySlotGives, CameInFlight, CanPollAll, ComesByKey, ComesFromSlots, EntersAt, FliesInOrder, Flights, FlightsGiveNoMore, FlightsWaitAt, FutureOf, GivesByKey, GivesWithKey, HasNoRoom, IsHeld, IsNewInFlight, IsUsedUp, MakesRoom, MayCome, PollsInFlight, PushesInFlight, SlotGives, TagGives, WaitGives, WentIn, flight_slots, room_taken, run_count, runs_in, without_key}
+pub use Rattle.futures_buffered_in_flight.specs.InFlightMerge.{AnswersNoMore, AnswersThen, AnyAnswers, AnyStream, CameOfMerge, CanPollStreams, ComesFromMerged, ComesOfStream, GivesAnswer, HoldsStream, HoldsStreams, IsNewMerge, Merged, MergedWaitsAt, OneGoesOn, OneStreamEndsAtMost, PollsMerge, PollsUnkeyed, StreamEnters, StreamOf, StreamWentIn, Streams, StreamsGoOn, made_set, next_of, streams_held}
 pub use Rattle.futures_buffered_in_flight.specs.InFlightOrdered.{AnswersInTurn, CameInTurn, CanPollOrdered, ComesOfEach, EntersBack, EntersFront, HasPlaces, HoldsInTurn, IsCleared, IsNewInOrder, KeepsInOrder, MayRefuseFuture, OrderedIsFull, OrderedWaitsAt, PushesInTurn, PushesOrComesBack, RefusesFutures, ordered_room}
 pub use Rattle.futures_buffered_in_flight.specs.InFlightQueue.{CanPollQueue, KeepsRoom, MayRefuseNumber, PollsQueued, PushesQueued, RefusesNumbers, flights_with, has_tag}
 pub use Rattle.futures_buffered_in_flight.specs.InFlightTurns.{Flies, Starts}

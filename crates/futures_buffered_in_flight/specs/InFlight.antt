@@ -1,7 +1,7 @@
 -- What a contract sees of a set of futures in flight. A clause describes the futures by the ghost members of their
 -- type: `F.Future`.
 use Rattle.std.specs.Prelude.{◌≡◌, ◌+◌, ◌-◌, ◌^◌, ◌<◌, ◌≤◌, ◌⊎◌, min, ℕ, Bool, false, true, List, [], length, slice_get, Option, Some, None}
-use Rattle.std.specs.Prelude.{IfSome, IsSomeAnd, Result, IfOk, IfErr, IsErr}
+use Rattle.std.specs.Prelude.{IfSome, IsSomeAnd, Result, IfOk, IfErr, IsErr, option_map}
 use Rattle.std.specs.List.{AllByRecursion}
 use Rattle.futures.specs.declared.task.Poll.{Poll}
 use Rattle.futures.specs.declared.task.Poll.TheVariants.{Ready, Pending}
@@ -51,6 +51,11 @@ room_taken s = held_count s.slots + s.cancelled
 -- what comes of a run has its key, and only an output that its future may give
 abbrev pub GivesWithKey : {F A : Type 0} → (F → A → Type 0) → Run F → Key × Option A → Type 0
 GivesWithKey gives run came = (came.0 ≡ run.key) × IfSome came.1 (gives run.future)
+
+-- the answer of a poll without keys and tags
+abbrev pub without_key : {A T : Type 0} → Poll (Option (Came A T)) → Poll (Option A)
+without_key (Ready came) = Ready (option_map (λ c. c.output) came)
+without_key Pending = Pending
 
 -- the future of this key is held, under this tag
 abbrev pub IsHeld : {F T : Type 0} → Flights F T → Key → T → Type 0

@@ -2,7 +2,7 @@
 -- answer of a stream, and the stream; its tag is the number of the stream's push. A clause gives the streams by the
 -- ghost members of their type: `St.Stream`.
 use Rattle.std.specs.Prelude.{◌≡◌, ◌≢◌, ◌+◌, ◌-◌, ◌^◌, ◌<◌, ◌≤◌, ◌⊎◌, ℕ, Bool, true, false, min, List, [], ◌∷◌, Option, Some, None}
-use Rattle.std.specs.Prelude.{IsSomeAnd, MatchOption, Result, Ok, IfErr, IfOk, IsErr, length, option_map}
+use Rattle.std.specs.Prelude.{IsSomeAnd, MatchOption, Result, Ok, IfErr, IfOk, IsErr, length}
 use Rattle.futures.specs.declared.task.Poll.{Poll}
 use Rattle.futures.specs.declared.task.Poll.TheVariants.{Ready, Pending}
 use Rattle.futures.specs.declared.task.context.Context.{Context}
@@ -14,7 +14,7 @@ use Rattle.futures.specs.Runs.{Runs, Within}
 use Rattle.futures.specs.Task.{Covers, Keeps}
 use Rattle.futures_buffered_core.specs.SlotMap.{held_count, no_slots}
 use Rattle.futures_buffered_unordered.specs.FuturesUnorderedBounded.{IsWoken}
-use Rattle.futures_buffered_in_flight.specs.InFlight.{Cancels, CanPollAll, Flights, FlightsWaitAt, FutureOf, IsHeld, MayCome, run_count}
+use Rattle.futures_buffered_in_flight.specs.InFlight.{Cancels, CanPollAll, Flights, FlightsWaitAt, FutureOf, IsHeld, MayCome, run_count, without_key}
 use Rattle.futures_buffered_in_flight.specs.declared.in_flight.Came.{Came}
 use Rattle.futures_buffered_in_flight.specs.declared.run.Key.{Key}
 
@@ -53,11 +53,6 @@ MergedWaitsAt m = FlightsWaitAt m.set
 abbrev pub CancelsStream : {St : Type 0} → Streams St → Key → Bool → Streams St → Type 0
 CancelsStream old key true new = (push : ℕ) × Cancels old (record { slot = key.slot; push = push }) key.push new
 CancelsStream old key false new = (new ≡ old) × (HoldsStream old key → ⊥)
-
--- the answer of a poll without the keys
-abbrev pub without_key : {A T : Type 0} → Poll (Option (Came A T)) → Poll (Option A)
-without_key (Ready came) = Ready (option_map (λ c. c.output) came)
-without_key Pending = Pending
 
 module _ {St A : Type 0} (stream : StreamOf St A) where
   -- the ghost members of the future of the next answer of a stream

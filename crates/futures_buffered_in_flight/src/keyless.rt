@@ -1,6 +1,6 @@
 //! The answer of a poll of a set, without keys and tags.
 ghost use Rattle.std.specs.Prelude.{◌≡◌};
-ghost use Rattle.futures_buffered_in_flight.specs.InFlightMerge.{without_key};
+ghost use Rattle.futures_buffered_in_flight.specs.InFlight.{without_key};
 
 use crate::in_flight::Came;
 use futures::task::Poll;

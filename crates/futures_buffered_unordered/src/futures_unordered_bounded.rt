@@ -4,6 +4,7 @@
 //! from the set's source, at most as many as its limit, and polls their futures until one is ready. A slot that is not
 //! marked costs nothing.
 ghost use Rattle.std.specs.Prelude.{◌≡◌, ◌<◌, ◌≤◌, ◌+◌, ◌==◌, ◌↔◌, IfOk, IsSome, IsTrue, true};
+ghost use Rattle.futures.specs.Task.{Covers};
 ghost use Rattle.futures_buffered_core.specs.Drawn.{IsFiniteSource, items_of};
 ghost use Rattle.futures_buffered_core.specs.Made.{MakesSlots};
 ghost use Rattle.futures_buffered_core.specs.ReadyShared.{IsNewShared, MarksShared};
@@ -285,6 +286,26 @@ impl<F: Drop, S: ReadySource, K> BoundedSet<F, S, K> {
             self.old result self.new cx.old cx.new }
     {
         self.source.register(cx);
+        self.poll_first_registered(rule, cx)
+    }
+
+    /// As `poll_first`, but registers nothing if the task is already registered, with this set or with one next to it.
+    #[inline(always)]
+    pub(crate) fn poll_round<R: PollOne<F, S::Waker>>(
+        &mut self,
+        rule: &R,
+        cx: &mut Context<'_>,
+        is_registered: bool,
+    ) -> Poll<(usize, R::Output)>
+        requires held { AllHeld R.can_poll self.old.slots }
+        requires registered { IsTrue is_registered → Covers cx.old (S.needs self.old.source) }
+        ensures { RegistersAndTakes R.PollOne (unless_registered is_registered S.ReadySource)
+            self.old result self.new cx.old cx.new }
+    {
+        if is_registered {
+            return self.poll_first_registered(rule, cx);
+        }
+        ReadySource::register(&mut self.source, cx);
         self.poll_first_registered(rule, cx)
     }
 

@@ -13,7 +13,7 @@ rounds-preserved g c =
     let freed = c.empty_slot.ensures in
     record {
       pollable = grind (arith, common_steps);
-      registered = λ _. subst (λ (b : Bounded g.row.St.Denot g.row.S.Denot). Covers c.ask_streams.new.cx (g.S.ReadySource.needs b.source)) (sym freed.emptied) asks.takes.covered;
+      registered = λ _. subst (λ (b : Bounded g.row.St.Denot g.row.S.Denot). Covers c.poll_round.new.cx (g.S.ReadySource.needs b.source)) (sym freed.emptied) asks.takes.covered;
       goes_on = λ answer last after p. c.rounds.invariant.goes_on answer last after (round_ends g.St.SlotStream source _ _ _ (search rules) _ _ c.in-Ready-default-None.i asks freed.emptied freed.count freed.capacity answer last after p);
     }
 
