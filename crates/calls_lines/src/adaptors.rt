@@ -1,7 +1,7 @@
 //! Adaptors: buffers over a stream of futures, and the for-each.
 ghost use Rattle.std.specs.Prelude.{◌<◌, ◌≤◌};
 
-use crate::ask::ask;
+use crate::ask::{Call, ask};
 use crate::kinds::AllTypes;
 use calls_world::lines::run_made;
 use calls_world::reply::{Item, Reply, of_end, of_next};
@@ -59,10 +59,9 @@ where
     }
 
     fn call(&mut self, word: &str, _: &[usize], _: &SharedWorld, text: &mut Text) -> Reply {
-        match word {
-            "has_stream" => Reply::Is(self.stream().is_some()),
-            _ => ask!(self, word, text, Hint size_hint, Number len, Is is_empty, Number capacity,
-                Is is_terminated),
+        match Call::of(word) {
+            Call::HasStream => Reply::Is(self.stream().is_some()),
+            call => ask!(self, call, text; SizeHint Len IsEmpty Capacity IsTerminated),
         }
     }
 }
@@ -129,10 +128,9 @@ where
     }
 
     fn call(&mut self, word: &str, _: &[usize], _: &SharedWorld, text: &mut Text) -> Reply {
-        match word {
-            "has_stream" => Reply::Is(self.stream().is_some()),
-            _ => ask!(self, word, text, Number len, Is is_empty, Number capacity,
-                Is is_terminated),
+        match Call::of(word) {
+            Call::HasStream => Reply::Is(self.stream().is_some()),
+            call => ask!(self, call, text; Len IsEmpty Capacity IsTerminated),
         }
     }
 }
@@ -177,16 +175,16 @@ impl<F: FnMut(TryUnitFuture) -> TryUnitFuture + Drop> Subject<AllTypes>
     }
 
     fn call(&mut self, word: &str, _: &[usize], _: &SharedWorld, text: &mut Text) -> Reply {
-        match word {
-            "len" => match self.buffer() {
+        match Call::of(word) {
+            Call::Len => match self.buffer() {
                 Some(buffer) => Reply::Number(buffer.len()),
                 None => Reply::Number(0),
             },
-            "has_stream" => match self.buffer() {
+            Call::HasStream => match self.buffer() {
                 Some(buffer) => Reply::Is(buffer.stream().is_some()),
                 None => Reply::Is(false),
             },
-            _ => ask!(self, word, text, Is is_terminated),
+            call => ask!(self, call, text; IsTerminated),
         }
     }
 }

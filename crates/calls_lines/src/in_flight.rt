@@ -1,5 +1,5 @@
 //! Sets of the kit's futures.
-use crate::ask::ask;
+use crate::ask::{Call, ask};
 use crate::kinds::AllTypes;
 use calls_world::memory;
 use calls_world::reply::{Item, Reply, of_next, of_push};
@@ -97,9 +97,8 @@ fn refusal<K: Kind>(was_full: bool) -> Reply {
     }
 }
 
-fn ask_set<T: Drop, K: Kind>(set: &Set<T, K>, word: &str, text: &mut Text) -> Reply {
-    ask!(set, word, text, Number len, Is is_empty, Number capacity, Is is_full, Hint size_hint,
-        Is is_terminated)
+fn ask_set<T: Drop, K: Kind>(set: &Set<T, K>, call: Call, text: &mut Text) -> Reply {
+    ask!(set, call, text; Len IsEmpty Capacity IsFull SizeHint IsTerminated)
 }
 
 impl<K: Pushing> KitSet<K> {
@@ -154,12 +153,12 @@ impl<K: Pushing> Subject<AllTypes> for KitSet<K> {
     }
 
     fn call(&mut self, word: &str, ids: &[usize], world: &SharedWorld, text: &mut Text) -> Reply {
-        match word {
-            "push" => self.push(new_value(world, ids), first_of(ids)),
-            "cancel" => self.cancel(first_of(ids)),
-            "contains" => self.contains(first_of(ids)),
-            "clear" => Reply::Done(self.set.clear()),
-            _ => ask_set(self.set.get(), word, text),
+        match Call::of(word) {
+            Call::Push => self.push(new_value(world, ids), first_of(ids)),
+            Call::Cancel => self.cancel(first_of(ids)),
+            Call::Contains => self.contains(first_of(ids)),
+            Call::Clear => Reply::Done(self.set.clear()),
+            call => ask_set(self.set.get(), call, text),
         }
     }
 }
@@ -171,14 +170,14 @@ impl<K: Pushing> Subject<AllTypes> for Untagged<K> {
     }
 
     fn call(&mut self, word: &str, ids: &[usize], world: &SharedWorld, text: &mut Text) -> Reply {
-        match word {
-            "push" => {
+        match Call::of(word) {
+            Call::Push => {
                 let was_full = self.get().is_full();
                 let pushed = K::push(self, new_value(world, ids)).map(|_key| ());
                 of_push(pushed, refusal::<K>(was_full))
             }
-            "clear" => Reply::Done(self.clear()),
-            _ => ask_set(self.get(), word, text),
+            Call::Clear => Reply::Done(self.clear()),
+            call => ask_set(self.get(), call, text),
         }
     }
 }

@@ -1,5 +1,5 @@
 //! Joins of the kit's futures, and merges of its streams.
-use crate::ask::ask;
+use crate::ask::{Call, ask};
 use crate::in_flight::{Keys, keep_key, key_of, make_place};
 use crate::kinds::AllTypes;
 use calls_world::memory;
@@ -43,7 +43,7 @@ impl Subject<AllTypes> for KitJoin {
     }
 
     fn call(&mut self, word: &str, _: &[usize], _: &SharedWorld, text: &mut Text) -> Reply {
-        ask!(self.join, word, text)
+        ask!(self.join, Call::of(word), text;)
     }
 }
 
@@ -59,7 +59,7 @@ impl Subject<AllTypes> for KitTryJoin {
     }
 
     fn call(&mut self, word: &str, _: &[usize], _: &SharedWorld, text: &mut Text) -> Reply {
-        ask!(self.join, word, text)
+        ask!(self.join, Call::of(word), text;)
     }
 }
 
@@ -132,11 +132,10 @@ impl Subject<AllTypes> for KitMerge {
     }
 
     fn call(&mut self, word: &str, ids: &[usize], world: &SharedWorld, text: &mut Text) -> Reply {
-        match word {
-            "push" => self.push(new_value(world, ids), first_of(ids)),
-            "cancel" => self.cancel(first_of(ids)),
-            _ => ask!(self.merge, word, text, Done clear, Number len, Is is_empty,
-                Number capacity, Is is_full),
+        match Call::of(word) {
+            Call::Push => self.push(new_value(world, ids), first_of(ids)),
+            Call::Cancel => self.cancel(first_of(ids)),
+            call => ask!(self.merge, call, text; Clear Len IsEmpty Capacity IsFull),
         }
     }
 }

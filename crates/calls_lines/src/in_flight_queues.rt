@@ -1,7 +1,7 @@
 //! Queues of the kit's futures.
 ghost use Rattle.std.specs.Prelude.{◌<◌};
 
-use crate::ask::ask;
+use crate::ask::{Call, ask};
 use crate::kinds::AllTypes;
 use calls_world::reply::{Reply, of_full, of_next, of_push};
 use calls_world::session::{Session, first_of};
@@ -23,17 +23,17 @@ impl Subject<AllTypes> for KitQueue {
     }
 
     fn call(&mut self, word: &str, ids: &[usize], world: &SharedWorld, text: &mut Text) -> Reply {
-        match word {
-            "push_back" => {
+        match Call::of(word) {
+            Call::PushBack => {
                 let pushed = self.try_push_back(new_value(world, ids));
                 of_full(pushed, self.get().is_full(), Reply::Nothing)
             }
-            "push_front" => {
+            Call::PushFront => {
                 let pushed = self.try_push_front(new_value(world, ids));
                 of_full(pushed, self.get().is_full(), Reply::Nothing)
             }
-            "clear" => Reply::Done(self.clear()),
-            _ => ask!(self.get(), word, text, Number len, Number capacity, Is is_full),
+            Call::Clear => Reply::Done(self.clear()),
+            call => ask!(self.get(), call, text; Len Capacity IsFull),
         }
     }
 }
@@ -47,11 +47,11 @@ impl Subject<AllTypes> for KitGrowingQueue {
     }
 
     fn call(&mut self, word: &str, ids: &[usize], world: &SharedWorld, text: &mut Text) -> Reply {
-        match word {
-            "push_back" => of_push(self.push_back(new_value(world, ids)), Reply::Refused),
-            "push_front" => of_push(self.push_front(new_value(world, ids)), Reply::Refused),
-            "clear" => Reply::Done(self.clear()),
-            _ => ask!(self.get(), word, text, Number len, Number capacity, Is is_terminated),
+        match Call::of(word) {
+            Call::PushBack => of_push(self.push_back(new_value(world, ids)), Reply::Refused),
+            Call::PushFront => of_push(self.push_front(new_value(world, ids)), Reply::Refused),
+            Call::Clear => Reply::Done(self.clear()),
+            call => ask!(self.get(), call, text; Len Capacity IsTerminated),
         }
     }
 }

@@ -1,5 +1,5 @@
 //! Joins.
-use crate::ask::ask;
+use crate::ask::{Call, ask};
 use crate::kinds::AllTypes;
 use calls_world::reply::{Reply, of_outputs, of_results};
 use calls_world::session::Session;
@@ -22,7 +22,7 @@ impl<F: SlotFuture<S::Waker, Output = Output>, S: ReadySource> Subject<AllTypes>
     }
 
     fn call(&mut self, word: &str, _: &[usize], _: &SharedWorld, text: &mut Text) -> Reply {
-        ask!(self, word, text, Is is_terminated)
+        ask!(self, Call::of(word), text; IsTerminated)
     }
 }
 
@@ -37,7 +37,7 @@ where
     }
 
     fn call(&mut self, word: &str, _: &[usize], _: &SharedWorld, text: &mut Text) -> Reply {
-        ask!(self, word, text, Is is_terminated)
+        ask!(self, Call::of(word), text; IsTerminated)
     }
 }
 

@@ -1,5 +1,5 @@
 //! Merges of streams.
-use crate::ask::ask;
+use crate::ask::{Call, ask};
 use crate::kinds::AllTypes;
 use calls_world::reply::{Item, Reply, of_next, of_push};
 use calls_world::session::Session;
@@ -29,11 +29,10 @@ where
     }
 
     fn call(&mut self, word: &str, ids: &[usize], world: &SharedWorld, text: &mut Text) -> Reply {
-        match word {
-            "push" => of_push(self.try_push(new_value(world, ids)), Reply::Full),
-            "extend" => of_push(self.extend(new_values(world, ids)), Reply::Full),
-            _ => ask!(self, word, text, Done clear, Number len, Is is_empty, Number capacity,
-                Is is_full, Hint size_hint, Is is_terminated),
+        match Call::of(word) {
+            Call::Push => of_push(self.try_push(new_value(world, ids)), Reply::Full),
+            Call::Extend => of_push(self.extend(new_values(world, ids)), Reply::Full),
+            call => ask!(self, call, text; Clear Len IsEmpty Capacity IsFull SizeHint IsTerminated),
         }
     }
 }
@@ -49,11 +48,10 @@ where
     }
 
     fn call(&mut self, word: &str, ids: &[usize], world: &SharedWorld, text: &mut Text) -> Reply {
-        match word {
-            "push" => of_push(self.push(new_value(world, ids)), Reply::Refused),
-            "extend" => of_push(self.extend(new_values(world, ids)), Reply::Refused),
-            _ => ask!(self, word, text, Done clear, Number len, Is is_empty, Number capacity,
-                Hint size_hint, Is is_terminated),
+        match Call::of(word) {
+            Call::Push => of_push(self.push(new_value(world, ids)), Reply::Refused),
+            Call::Extend => of_push(self.extend(new_values(world, ids)), Reply::Refused),
+            call => ask!(self, call, text; Clear Len IsEmpty Capacity SizeHint IsTerminated),
         }
     }
 }

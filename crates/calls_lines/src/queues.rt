@@ -1,5 +1,5 @@
 //! Ordered queues of futures.
-use crate::ask::ask;
+use crate::ask::{Call, ask};
 use crate::kinds::AllTypes;
 use calls_world::reply::{Item, Reply, of_full, of_next, of_push};
 use calls_world::session::{Session, first_of};
@@ -32,21 +32,20 @@ where
     }
 
     fn call(&mut self, word: &str, ids: &[usize], world: &SharedWorld, text: &mut Text) -> Reply {
-        match word {
-            "push_back" => {
+        match Call::of(word) {
+            Call::PushBack => {
                 let pushed = self.try_push_back(new_value(world, ids));
                 of_full(pushed, self.is_full(), Reply::Refused)
             }
-            "push_front" => {
+            Call::PushFront => {
                 let pushed = self.try_push_front(new_value(world, ids));
                 of_full(pushed, self.is_full(), Reply::Refused)
             }
-            "extend" => {
+            Call::Extend => {
                 let extended = self.extend(new_values(world, ids));
                 of_full(extended, self.is_full(), Reply::Refused)
             }
-            _ => ask!(self, word, text, Done clear, Number len, Number capacity, Number limit,
-                Is is_full, Hint size_hint, Is is_terminated),
+            call => ask!(self, call, text; Clear Len Capacity Limit IsFull SizeHint IsTerminated),
         }
     }
 }
@@ -62,12 +61,11 @@ where
     }
 
     fn call(&mut self, word: &str, ids: &[usize], world: &SharedWorld, text: &mut Text) -> Reply {
-        match word {
-            "push_back" => of_push(self.push_back(new_value(world, ids)), Reply::Refused),
-            "push_front" => of_push(self.push_front(new_value(world, ids)), Reply::Refused),
-            "extend" => of_push(self.extend(new_values(world, ids)), Reply::Refused),
-            _ => ask!(self, word, text, Done clear, Number len, Number limit, Hint size_hint,
-                Is is_terminated),
+        match Call::of(word) {
+            Call::PushBack => of_push(self.push_back(new_value(world, ids)), Reply::Refused),
+            Call::PushFront => of_push(self.push_front(new_value(world, ids)), Reply::Refused),
+            Call::Extend => of_push(self.extend(new_values(world, ids)), Reply::Refused),
+            call => ask!(self, call, text; Clear Len Limit SizeHint IsTerminated),
         }
     }
 }

@@ -1,5 +1,5 @@
 //! Sets of futures.
-use crate::ask::ask;
+use crate::ask::{Call, ask};
 use crate::kinds::AllTypes;
 use calls_world::reply::{Item, Reply, of_next, of_push};
 use calls_world::session::{Session, first_of};
@@ -37,11 +37,10 @@ where
     }
 
     fn call(&mut self, word: &str, ids: &[usize], world: &SharedWorld, text: &mut Text) -> Reply {
-        match word {
-            "push" => of_push(self.try_push(new_value(world, ids)), Reply::Full),
-            "extend" => of_push(self.extend(new_values(world, ids)), Reply::Full),
-            _ => ask!(self, word, text, Done clear, Number len, Number capacity, Number limit,
-                Is is_full, Hint size_hint, Is is_terminated),
+        match Call::of(word) {
+            Call::Push => of_push(self.try_push(new_value(world, ids)), Reply::Full),
+            Call::Extend => of_push(self.extend(new_values(world, ids)), Reply::Full),
+            call => ask!(self, call, text; Clear Len Capacity Limit IsFull SizeHint IsTerminated),
         }
     }
 }
@@ -84,11 +83,10 @@ where
     }
 
     fn call(&mut self, word: &str, ids: &[usize], world: &SharedWorld, text: &mut Text) -> Reply {
-        match word {
-            "push" => of_push(self.push(new_value(world, ids)), Reply::Refused),
-            "extend" => of_push(self.extend(new_values(world, ids)), Reply::Refused),
-            _ => ask!(self, word, text, Done clear, Number len, Number capacity, Number limit,
-                Hint size_hint, Is is_terminated),
+        match Call::of(word) {
+            Call::Push => of_push(self.push(new_value(world, ids)), Reply::Refused),
+            Call::Extend => of_push(self.extend(new_values(world, ids)), Reply::Refused),
+            call => ask!(self, call, text; Clear Len Capacity Limit SizeHint IsTerminated),
         }
     }
 }
