@@ -285,8 +285,7 @@ impl<F: Drop, S: ReadySource, K> BoundedSet<F, S, K> {
         ensures { RegistersAndTakes R.PollOne S.ReadySource
             self.old result self.new cx.old cx.new }
     {
-        self.source.register(cx);
-        self.poll_first_registered(rule, cx)
+        self.poll_round(rule, cx, false)
     }
 
     /// As `poll_first`, but registers nothing if the task is already registered, with this set or with one next to it.
@@ -305,7 +304,7 @@ impl<F: Drop, S: ReadySource, K> BoundedSet<F, S, K> {
         if is_registered {
             return self.poll_first_registered(rule, cx);
         }
-        ReadySource::register(&mut self.source, cx);
+        self.source.register(cx);
         self.poll_first_registered(rule, cx)
     }
 
@@ -379,7 +378,7 @@ impl<F: Drop, S: ReadySource> FuturesUnorderedBounded<F, S> {
         if self.slots.is_empty() {
             return Poll::Ready(None);
         }
-        // As `poll_first` does; a call of it would take half a nanosecond more.
+        // As `poll_round` does; a call of it would take half a nanosecond more.
         S::register(&mut self.source, cx);
         match self.poll_first_registered(rule, cx) {
             Poll::Ready((slot, output)) => {
