@@ -1,3 +1,4 @@
+pub mod Common
 pub mod ScriptLemmas
 pub mod ThreadsLemmas
 pub mod ProgramWordsLemmas

@@ -1,17 +1,6 @@
 -- The words of a call, taken one by one, and the status that a call ends with.
-use Rattle.std.proofs.Common.{◌≡◌, ◌↔◌, ◌<◌, ◌⊎◌, ℕ, false, List, [], ◌∷◌, length, Option, Some}
-use Rattle.std.proofs.Common.{None}
-use Rattle.std.proofs.Common.{Result, Ok, Err, IfOk, IfErr, OnOk, IfSome, is_some, IsSome, refl}
-use Rattle.std.proofs.Common.{sym, ap, subst}
-use Rattle.std.proofs.Common.{◌∙◌, arith, inl, inr, codes}
+use Rattle.fbuf_program.proofs.Common.{◌≡◌, ◌↔◌, ◌<◌, ◌⊎◌, ℕ, false, List, [], ◌∷◌, length, Option, Some, None, Result, Ok, Err, IfOk, IfErr, OnOk, IfSome, is_some, IsSome, refl, sym, ap, subst, ◌∙◌, arith, inl, inr, codes, decimal_injective, Appends-nil, take-length, lines_of, first_session, AppendsFirstReplies, AppendsPartOfReplies, AppendsThreadsLine}
 use Rattle.std.specs.Fmt.{decimal}
-use Rattle.std.proofs.lemmas.Fmt.{decimal_injective}
-use Rattle.std.proofs.KnownBytes.{Appends-nil}
-use Rattle.std.proofs.Math.Seq.{take-length}
-use Rattle.fbuf_lines.specs.Lines.{lines_of}
-use Rattle.fbuf_lines.specs.Session.{first_session}
-use Rattle.fbuf_program.specs.Script.{AppendsFirstReplies, AppendsPartOfReplies}
-use Rattle.fbuf_program.specs.Threads.{AppendsThreadsLine}
 use Rattle.fbuf_program.specs.ProgramWords.{WordsAskFor, ProgramEnds, EndsScript}
 use Rattle.fbuf_program.specs.ProgramWords.{status_of, ended_status, fault_of_script}
 use Rattle.fbuf_program.specs.declared.program_words.Call.{Call}

@@ -1,19 +1,7 @@
 -- How far a script has been answered, and what one more line or write makes of it.
-use Rattle.std.proofs.Common.{◌≡◌, ℕ, ◌+◌, ◌-◌, List, [], ◌∷◌, ◌++◌, length, take, drop, Option}
-use Rattle.std.proofs.Common.{Bool, false, ◌||◌, ◌&&◌, ◌==◌, refl, sym, ap, ◌∙◌, append-nil}
-use Rattle.std.proofs.Common.{append_assoc}
+use Rattle.fbuf_program.proofs.Common.{◌≡◌, ℕ, ◌+◌, ◌-◌, List, [], ◌∷◌, ◌++◌, length, take, drop, Option, Bool, false, ◌||◌, ◌&&◌, ◌==◌, refl, sym, ap, ◌∙◌, append-nil, append_assoc, ne_eqb, Appends-nil, Appends-trans, take-append-add, take-add, take_rest, drop-drop, flat_map_more, flat_map, Appends, lines_of, LineGives, ScriptSession, first_session, LinesGive, IsReplyTo, AppendsReplies, AppendsFirstReplies, AppendsPartOfReplies}
 use Rattle.std.proofs.Math.Bool.{or-false}
-use Rattle.std.proofs.lemmas.Bool.{ne_eqb}
-use Rattle.std.proofs.KnownBytes.{Appends-nil, Appends-trans}
-use Rattle.std.proofs.Math.Seq.{take-append-add, take-add}
-use Rattle.std.proofs.lemmas.List.{take_rest, drop-drop, flat_map_more}
-use Rattle.std.specs.List.{flat_map}
-use Rattle.std.specs.Io.KnownBytes.{Appends}
-use Rattle.fbuf_lines.specs.Lines.{lines_of}
 use Rattle.fbuf_lines.specs.Reply.{reply_line}
-use Rattle.fbuf_lines.specs.Session.{LineGives, ScriptSession, first_session}
-use Rattle.fbuf_program.specs.Script.{LinesGive, IsReplyTo}
-use Rattle.fbuf_program.specs.Script.{AppendsReplies, AppendsFirstReplies, AppendsPartOfReplies}
 use Rattle.fbuf_lines.specs.declared.reply.Reply.{Reply}
 
 LinesGive-push : (first : ScriptSession) (lines : List (List ℕ)) (replies : List Reply)

@@ -1,37 +1,19 @@
 -- How the line of a run grows, and which numbers the futures of its set hold and give.
-use Rattle.std.proofs.Common.{◌≡◌, ℕ, zero, suc, ◌+◌, ◌<◌, ◌≤◌, Bool, true, false, cond, eqb}
-use Rattle.std.proofs.Common.{List, [], ◌∷◌, ◌++◌, length, take, get_or, set, append-nil}
-use Rattle.std.proofs.Common.{Option, Some, None, is_some, IfSome, MatchOption}
-use Rattle.std.proofs.Common.{subst, sym, ap, refl, ◌∙◌, arith, inl, inr}
-use Rattle.std.proofs.KnownBytes.{Appends-trans}
-use Rattle.std.proofs.lemmas.Bool.{cases_lt, ne_eqb, eq-eqb}
-use Rattle.std.proofs.lemmas.List.{take_all, take_more, flat_map_more, map-id}
-use Rattle.std.proofs.lemmas.List.FromFn.{map-range_with_len_more, get_or-range_with_len}
-use Rattle.std.proofs.lemmas.List.FromFn.{length-range_with_len}
+use Rattle.fbuf_program.proofs.Common.{◌≡◌, ℕ, zero, suc, ◌+◌, ◌<◌, ◌≤◌, Bool, true, false, cond, eqb, List, [], ◌∷◌, ◌++◌, length, take, get_or, set, append-nil, Option, Some, None, is_some, IfSome, MatchOption, subst, sym, ap, refl, ◌∙◌, arith, inl, inr, Appends-trans, cases_lt, ne_eqb, eq-eqb, take_all, take_more, flat_map_more, map-id, map-range_with_len_more, get_or-range_with_len, length-range_with_len, sum_by-cons, sum_by_push, sum_by-set, sum_by-le-sum_by, sum_by-IsPermutation, flat_map, range_with_len, FoldsTo, Appends, Ready, Pending, Passes, Yields, value_in-with_value, spaced_number, times_in, is_numbered, times_held, AnswersNumber, HoldsNumbers, GaveNumber, GiveNumbers}
 use Rattle.std.proofs.lemmas.List.Folds.{sum_by-replicate}
-use Rattle.std.proofs.lemmas.List.Sums.{sum_by-cons, sum_by_push, sum_by-set, sum_by-le-sum_by}
-use Rattle.std.proofs.lemmas.List.Sorted.{sum_by-IsPermutation}
-use Rattle.std.specs.List.{flat_map, range_with_len, FoldsTo}
 use Rattle.std.specs.List.Sorted.{IsNonDecreasing, IsPermutation}
 use Rattle.std.specs.Option.{option_to_list}
-use Rattle.std.specs.Io.KnownBytes.{Appends}
 use Rattle.futures.specs.declared.task.context.Context.{Context}
 use Rattle.futures.specs.declared.task.Poll.{Poll}
-use Rattle.futures.specs.declared.task.Poll.TheVariants.{Ready, Pending}
 use Rattle.futures.specs.Poll.{IfReady, OnPending}
 use Rattle.futures.specs.Runs.{After, Within}
 use Rattle.futures_buffered_core.specs.SlotMap.{Slots, Inserts, value_in, slot_count}
 use Rattle.futures_buffered_core.specs.SlotMap.{held_count, no_slots, with_value, with_slot_freed}
 use Rattle.futures_buffered_core.proofs.SlotMapLemmas.{value_within}
-use Rattle.futures_buffered_unordered.specs.Held.{Passes, Yields}
 use Rattle.futures_buffered_unordered.specs.FuturesUnorderedBounded.{Bounded}
 use Rattle.futures_buffered_core.specs.declared.ready_source.ReadySource.{Ghosts as ReadySourceOf}
 use Rattle.futures_buffered_unordered.specs.PollsBounded.{PollsBounded, itself}
-use Rattle.futures_buffered_unordered.proofs.HeldLemmas.{value_in-with_value}
-use Rattle.fbuf_lines.specs.Command.{spaced_number}
 use Rattle.fbuf_program.specs.declared.threads.AllWakes.{AllWakes}
-use Rattle.fbuf_program.specs.Threads.{times_in, is_numbered, times_held, AnswersNumber}
-use Rattle.fbuf_program.specs.Threads.{HoldsNumbers, GaveNumber, GiveNumbers}
 
 -- no number stands behind the text yet
 pub line_begins : (first now : Option (List ℕ)) (text outputs : List ℕ) → Appends first now text

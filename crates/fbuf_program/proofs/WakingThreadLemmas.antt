@@ -1,7 +1,5 @@
 -- The wakes of threads that are still to be joined.
-use Rattle.std.proofs.Common.{◌≡◌, ℕ, ◌+◌, List, [], ◌∷◌, ◌++◌, length, refl, ap, ◌∙◌, arith}
-use Rattle.std.specs.List.{sum}
-use Rattle.std.proofs.lemmas.List.Sums.{sum_by_push}
+use Rattle.fbuf_program.proofs.Common.{◌≡◌, ℕ, ◌+◌, List, [], ◌∷◌, ◌++◌, length, refl, ap, ◌∙◌, arith, sum, sum_by_push}
 
 -- one number more at the end
 pub sum_pushed : (before after : List ℕ) (last : ℕ) → after ≡ before ++ last ∷ []

@@ -1,6 +1,5 @@
 -- What many calls account for, over any queue of which one knows what a push, an answer handed back and a poll account for.
-use Rattle.std.proofs.Common.{◌≡◌, ℕ, List, [], ◌∷◌, ◌++◌, Option, Some, None, Bool, true, false, is_some, refl, sym, subst, inl, inr, append-nil, append_assoc}
-use Rattle.futures_buffered.proofs.Common.{option_to_list, FoldsTo, Poll, Ready, Pending, Buffering, CallEnds, CallsInTurn, DrawsItem, DrawsLast, DrawsNone, all_drawn, all_outputs, answer_from, output_given}
+use Rattle.futures_buffered.proofs.Common.{◌≡◌, ℕ, List, [], ◌∷◌, ◌++◌, Option, Some, None, Bool, true, false, is_some, refl, sym, subst, inl, inr, append-nil, append_assoc, option_to_list, FoldsTo, Poll, Ready, Pending, Buffering, CallEnds, CallsInTurn, DrawsItem, DrawsLast, DrawsNone, all_drawn, all_outputs, answer_from, output_given}
 
 same_output : {A : Type 0} (goes_on : Bool) (queue_answer : Poll (Option A)) → output_given (answer_from goes_on queue_answer) ≡ output_given queue_answer
 same_output goes_on (Ready (Some x)) = refl

@@ -1,12 +1,7 @@
 -- What one draw, and one poll of the queue, leave of what may come from a buffer, and of whether it may be polled.
-use Rattle.std.proofs.Common.{◌≡◌, ◌⊎◌, ℕ, ◌+◌, ◌<◌, ◌≤◌, List, [], ◌∷◌, ◌++◌, length, Option, Some, None, IfNone, IfSome, IsSomeAnd, Bool, true, false, is_some, refl, sym, ap, subst, inl, inr, arith, ◌∙◌, append_assoc, length-append}
-use Rattle.futures_buffered.proofs.Common.{FoldsTo, FoldsTo-push, Poll, Ready, Pending, Context, Lasting, Covers, Keeps, Hears, Runs, After, Within, AllItems, Ends, Leads, Chains, Resolves, IfReady, OnPending, StreamAnswers, MayCome, AddsOutput, PollsFutureQueue, PushAddsOutput, PushLeavesQueue, Buffering, Follows, FutureQueueOf, StreamOf, Ahead, AsksStream, DrawsItem, DrawsNone, DrawsTask, FillsBuffer, HasNoTurn, PollsBuffer, PollsStream, WaitsAt, OneComes, BufferGives, buffer_of, answer_from, none-some}
-use Rattle.std.specs.List.{AllByRecursion}
-use Rattle.futures.proofs.RunLemmas.{Maps-Leads, Maps-Within, Maps_end}
+use Rattle.futures_buffered.proofs.Common.{◌≡◌, ◌⊎◌, ℕ, ◌+◌, ◌<◌, ◌≤◌, List, [], ◌∷◌, ◌++◌, length, Option, Some, None, IfNone, IfSome, IsSomeAnd, Bool, true, false, is_some, refl, sym, ap, subst, inl, inr, arith, ◌∙◌, append_assoc, length-append, FoldsTo, FoldsTo-push, Poll, Ready, Pending, Context, Lasting, Covers, Keeps, Hears, Runs, After, Within, AllItems, Ends, Leads, Chains, Resolves, IfReady, OnPending, StreamAnswers, MayCome, AddsOutput, PollsFutureQueue, PushAddsOutput, PushLeavesQueue, Buffering, Follows, FutureQueueOf, StreamOf, Ahead, AsksStream, DrawsItem, DrawsNone, DrawsTask, FillsBuffer, HasNoTurn, PollsBuffer, PollsStream, WaitsAt, OneComes, BufferGives, buffer_of, answer_from, none-some, AllByRecursion, Maps-Leads, Maps-Within, Maps_end, IsArmed, answers_of}
 use Rattle.futures.proofs.SentLemmas.{AllByRecursion_weaker}
 use Rattle.futures.specs.Buffered.{GathersWith}
-use Rattle.futures.specs.Task.{IsArmed}
-use Rattle.futures_buffered_unordered.proofs.StreamAnswersLemmas.{answers_of}
 
 -- the first outputs came, of as many items or entries less
 gathers_follow : {F A : Type 0} (P Q : A → Type 0) (m n : ℕ) (before after : Runs F) (first : List A) → ((xs : List A) → AllByRecursion P xs → AllByRecursion P (first ++ xs)) → ((x : A) → Q x → P x)

@@ -1,10 +1,6 @@
 -- Where each value held came from, and that no item drawn is lost or counted twice.
-use Rattle.std.proofs.Common.{◌≡◌, ℕ, zero, suc, ◌<◌, List, [], ◌∷◌, ◌++◌, length, set, get_or, filter_map, Option, Some, None, Result, MatchOption, IsSomeAnd, is_some, count_by, cond, refl, sym, subst, inl, inr, arith, append-nil, ◌∙◌, length-set}
-use Rattle.futures_buffered.proofs.Common.{IsPermutation, option_to_list, chained_keeps, FoldsTo, AllZip, FoldsTo-push, get_or-set_other, get_or-set_same, cases_eq, sum_by-cons, Poll, Ready, Pending, Slots, value_in, with_value, Woke, Passes, Bounded, Pushes, held_in, ReadySourceOf, SlotFutureOf, PollsBounded, itself, OfSomeTask, OnlyPushes, StreamOf, Accounts, PollsStream, output_given, PendsTo, WaitsInSlot, MayGiveInSlot, LosesNothing, TryLosesNothing, held_values, PushesOk, same_Some, none-some}
-use Rattle.std.proofs.lemmas.List.{set-get_or, set-set}
+use Rattle.futures_buffered.proofs.Common.{◌≡◌, ℕ, zero, suc, ◌<◌, List, [], ◌∷◌, ◌++◌, length, set, get_or, filter_map, Option, Some, None, Result, MatchOption, IsSomeAnd, is_some, count_by, cond, refl, sym, subst, inl, inr, arith, append-nil, ◌∙◌, length-set, IsPermutation, option_to_list, chained_keeps, FoldsTo, AllZip, FoldsTo-push, get_or-set_other, get_or-set_same, cases_eq, sum_by-cons, Poll, Ready, Pending, Slots, value_in, with_value, Woke, Passes, Bounded, Pushes, held_in, ReadySourceOf, SlotFutureOf, PollsBounded, itself, OfSomeTask, OnlyPushes, StreamOf, Accounts, PollsStream, output_given, PendsTo, WaitsInSlot, MayGiveInSlot, LosesNothing, TryLosesNothing, held_values, PushesOk, same_Some, none-some, set-get_or, set-set, all_zipped_more, held_within}
 use Rattle.std.proofs.lemmas.List.Sorted.{IsPermutation-refl, IsPermutation-sym, IsPermutation-trans, IsPermutation-cons, IsPermutation-middle, IsPermutation-append_right, IsPermutation-push_more, IsPermutation-pop_more}
-use Rattle.std.proofs.lemmas.Slice.Zip.{all_zipped_more}
-use Rattle.futures_buffered_unordered.proofs.HeldLemmas.{held_within}
 use Rattle.futures_buffered.proofs.BufferAccountLemmas.{many_calls}
 use Rattle.futures_buffered.proofs.TryBufferAccountLemmas.{AmongErrors, error_handed, ok_drew, queue_gave}
 

@@ -1,7 +1,5 @@
 -- What a push, and one poll, leave of a bounded set as what a buffer holds.
-use Rattle.std.proofs.Common.{◌≡◌, ◌⊎◌, ℕ, ◌+◌, ◌<◌, [], Option, Some, None, false, is_some, cond, sym, subst, ap, inl, inr, arith, ◌∙◌}
-use Rattle.futures_buffered.proofs.Common.{count_by-le-length, get_or-le-sum_by, cases_eq, Context, Poll, Ready, Pending, Slots, value_in, held_count, Inserts, Woke, ReadySourceOf, SlotFutureOf, MayGive, AllHeld, ComesFrom, Bounded, Pushes, held_in, slots_in, PollsBounded, itself, AllHeld-push, value_inserted, value_inserted_other, stream_of, AddsOutput, LeavesHeld, PollsFutureQueue, PushAddsOutput, PushLeavesQueue, MayGiveInSlot, same_Some}
-use Rattle.futures_buffered_unordered.proofs.HeldLemmas.{held_within}
+use Rattle.futures_buffered.proofs.Common.{◌≡◌, ◌⊎◌, ℕ, ◌+◌, ◌<◌, [], Option, Some, None, false, is_some, cond, sym, subst, ap, inl, inr, arith, ◌∙◌, count_by-le-length, get_or-le-sum_by, cases_eq, Context, Poll, Ready, Pending, Slots, value_in, held_count, Inserts, Woke, ReadySourceOf, SlotFutureOf, MayGive, AllHeld, ComesFrom, Bounded, Pushes, held_in, slots_in, PollsBounded, itself, AllHeld-push, value_inserted, value_inserted_other, stream_of, AddsOutput, LeavesHeld, PollsFutureQueue, PushAddsOutput, PushLeavesQueue, MayGiveInSlot, same_Some, held_within}
 use Rattle.futures_buffered_unordered.proofs.PollsBoundedLemmas.{answers_as_stream}
 
 -- a value held after an insertion is the one that went in, or was held before

@@ -1,9 +1,6 @@
 -- That the outputs of an ordered buffer are those of the first items drawn, in order, and that no item drawn is lost.
-use Rattle.std.proofs.Common.{◌≡◌, ◌≢◌, ℕ, zero, suc, ◌+◌, ◌≤◌, Bool, List, [], ◌∷◌, ◌++◌, set, Option, Some, None, Result, cond, count_by, refl, sym, ap, subst, inl, inr, ◌∙◌, append-nil, append_assoc, arith}
-use Rattle.futures_buffered.proofs.Common.{option_to_list, chained_keeps, FoldsTo, AllZip, slice_get, get_or-set_other, sum_by-cons, sum_by_push, cases_eq, eq-eqb, Poll, Ready, Pending, Slots, value_in, with_value, with_slot_freed, Inserts, Woke, Passes, Yields, held_in, PollOneOf, itself, apart, value_in-with_value, value_inserted, value_inserted_other, value_in-with_slot_freed_other, PollsNumbered, held_with, one_at, AddsBack, Entry, IsUnused, Kept, LastStep, OrderedGives, Running, SetYields, runs_with, OrderedBounded, PushesNumber, SetGives, Numbered, count-names, in_slots, none_held, numbers_inserted, numbers_polled, unused_none, ReadySourceOf, SlotFutureOf, OnlyPushes, StreamOf, Accounts, PollsStream, output_given, PendsTo, MayGiveInSlot, BecomesEntry, GivesInOrder, TryGivesInOrder, queue_len, PushesOk, same_Some}
+use Rattle.futures_buffered.proofs.Common.{◌≡◌, ◌≢◌, ℕ, zero, suc, ◌+◌, ◌≤◌, Bool, List, [], ◌∷◌, ◌++◌, set, Option, Some, None, Result, cond, count_by, refl, sym, ap, subst, inl, inr, ◌∙◌, append-nil, append_assoc, arith, option_to_list, chained_keeps, FoldsTo, AllZip, slice_get, get_or-set_other, sum_by-cons, sum_by_push, cases_eq, eq-eqb, Poll, Ready, Pending, Slots, value_in, with_value, with_slot_freed, Inserts, Woke, Passes, Yields, held_in, PollOneOf, itself, apart, value_in-with_value, value_inserted, value_inserted_other, value_in-with_slot_freed_other, PollsNumbered, held_with, one_at, AddsBack, Entry, IsUnused, Kept, LastStep, OrderedGives, Running, SetYields, runs_with, OrderedBounded, PushesNumber, SetGives, Numbered, count-names, in_slots, none_held, numbers_inserted, numbers_polled, unused_none, ReadySourceOf, SlotFutureOf, OnlyPushes, StreamOf, Accounts, PollsStream, output_given, PendsTo, MayGiveInSlot, BecomesEntry, GivesInOrder, TryGivesInOrder, queue_len, PushesOk, same_Some, nil_from_length, all_zipped_more}
 use Rattle.std.proofs.lemmas.Bool.Decides.{eqb_tells}
-use Rattle.std.proofs.lemmas.List.{nil_from_length}
-use Rattle.std.proofs.lemmas.Slice.Zip.{all_zipped_more}
 use Rattle.futures_buffered_ordered.proofs.OrderedEntriesInvariantLemmas.{runs-set}
 use Rattle.futures_buffered.proofs.BufferAccountLemmas.{many_calls}
 use Rattle.futures_buffered.proofs.TryBufferAccountLemmas.{AmongErrors, error_handed, ok_drew, queue_gave}

@@ -1,9 +1,7 @@
 -- What a push, and one poll, leave of an ordered queue as what a buffer holds.
-use Rattle.std.proofs.Common.{◌≡◌, ◌⊎◌, ℕ, ◌≤◌, List, [], ◌∷◌, length, Option, Some, None, ◌<◌, true, refl, sym, ap, subst, inl, inr, arith, ◌∙◌, map, cond, Bool}
-use Rattle.futures_buffered.proofs.Common.{FoldsTo, cases_eq, eq-eqb, get_or-le-sum_by, sum_by-set, Context, Poll, Ready, Pending, Slots, value_in, with_slot_freed, value_in-with_slot_freed_other, Woke, MayGive, held_in, AllHeld-push, CanPollFuture, PollsNumbered, held_with, AddsBack, ComesInOrder, EachHasOne, Entry, OrderedGives, starts_running, EachRunning, OrderedBounded, PollsOrderedBounded, PushesNumber, SetGives, SetMayGive, ReadySourceOf, PollOneOf, Numbered, in_slot, in_slots, as_many_of, comes_behind, empty_of, fewer_of, no_more_of, unused_none, stream_of, LeavesHeld, PollsFutureQueue, PushAddsOutput, MayGiveInSlot, queue_len, queue_slots}
+use Rattle.futures_buffered.proofs.Common.{◌≡◌, ◌⊎◌, ℕ, ◌≤◌, List, [], ◌∷◌, length, Option, Some, None, ◌<◌, true, refl, sym, ap, subst, inl, inr, arith, ◌∙◌, map, cond, Bool, FoldsTo, cases_eq, eq-eqb, get_or-le-sum_by, sum_by-set, Context, Poll, Ready, Pending, Slots, value_in, with_slot_freed, value_in-with_slot_freed_other, Woke, MayGive, held_in, AllHeld-push, CanPollFuture, PollsNumbered, held_with, AddsBack, ComesInOrder, EachHasOne, Entry, OrderedGives, starts_running, EachRunning, OrderedBounded, PollsOrderedBounded, PushesNumber, SetGives, SetMayGive, ReadySourceOf, PollOneOf, Numbered, in_slot, in_slots, as_many_of, comes_behind, empty_of, fewer_of, no_more_of, unused_none, stream_of, LeavesHeld, PollsFutureQueue, PushAddsOutput, MayGiveInSlot, queue_len, queue_slots, held_within}
 use Rattle.futures_buffered_ordered.proofs.FuturesOrderedBoundedLemmas.{queue_gives_of}
 use Rattle.futures_buffered_ordered.proofs.OrderedStreamLemmas.{bounded_answers}
-use Rattle.futures_buffered_unordered.proofs.HeldLemmas.{held_within}
 use Rattle.futures_buffered.proofs.BufferUnorderedLemmas.{held-inserts}
 
 module _ {F : Type 0} (i : ℕ) where

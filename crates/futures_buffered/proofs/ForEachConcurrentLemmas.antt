@@ -1,10 +1,8 @@
 -- What one turn of a for-each leaves.
-use Rattle.std.proofs.Common.{◌≡◌, ◌⊎◌, is_some, ℕ, ◌<◌, ◌≤◌, [], ◌∷◌, Option, Some, None, Bool, true, false, refl, inl, inr, arith, length, ◌∙◌, IfSome}
-use Rattle.futures_buffered.proofs.Common.{chained_keeps, Covers, Keeps, OnPending, Context, Poll, Ready, Pending, Calls, firsts, IsWoken, Buffering, DrawsTask, FutureQueueOf, PollsStream, StreamOf, WaitsAt, PollsFutureQueue, Ahead, PollsInTurns, TakesTurn, TurnLeaves, so_far, DrawsNone, AsksStream}
+use Rattle.futures_buffered.proofs.Common.{◌≡◌, ◌⊎◌, is_some, ℕ, ◌<◌, ◌≤◌, [], ◌∷◌, Option, Some, None, Bool, true, false, refl, inl, inr, arith, length, ◌∙◌, IfSome, chained_keeps, Covers, Keeps, OnPending, Context, Poll, Ready, Pending, Calls, firsts, IsWoken, Buffering, DrawsTask, FutureQueueOf, PollsStream, StreamOf, WaitsAt, PollsFutureQueue, Ahead, PollsInTurns, TakesTurn, TurnLeaves, so_far, DrawsNone, AsksStream, AtEachItem-Within}
 use Rattle.std.specs.Fn.{Mut}
 use Rattle.futures_buffered.specs.ForEachConcurrent.{ForEach, PollsForEach, TurnGives, DrawsOnce, turn_answer, CanForEach, MayEnd, for_each_of}
 use Rattle.futures_buffered.proofs.TurnsLemmas.{GoesOn}
-use Rattle.futures.proofs.RunLemmas.{AtEachItem-Within}
 use Rattle.futures_buffered.proofs.BufferLemmas.{none_drawn, polled_can, waits_empty, waits_pending}
 
 module _ {St X Fn F Q : Type 0} (stream : StreamOf St X) (closure : Mut Fn (X × Unit {0}) F) (queue : FutureQueueOf Q F (Unit {0})) where

@@ -1,6 +1,5 @@
 -- What a push and a poll of futures in flight are to a buffer.
-use Rattle.std.proofs.Common.{◌≡◌, ◌<◌, ℕ, List, [], inl, inr, length, Option, Some, None, Ok, false, true, rules, ap, refl, sym, subst, arith}
-use Rattle.futures_buffered.proofs.Common.{Poll, Ready, Pending, Context, Within, Slots, held_count, stream_of, Gathers-Within, Gathers-After, Entry, Ordered, Buffering, StreamOf, AddsOutput, LeavesHeld, PollsFutureQueue, PushAddsOutput, PushLeavesQueue}
+use Rattle.futures_buffered.proofs.Common.{◌≡◌, ◌<◌, ℕ, List, [], inl, inr, length, Option, Some, None, Ok, false, true, rules, ap, refl, sym, subst, arith, Poll, Ready, Pending, Context, Within, Slots, held_count, stream_of, Gathers-Within, Gathers-After, Entry, Ordered, Buffering, StreamOf, AddsOutput, LeavesHeld, PollsFutureQueue, PushAddsOutput, PushLeavesQueue, IsNewBuffer, answers_of}
 use Rattle.futures_buffered_in_flight.specs.InFlight.{AnySlotGives, ComesFromSlots, Flights, FlightsWaitAt, FutureOf, flight_slots}
 use Rattle.futures_buffered_in_flight.specs.InFlightOrdered.{AnswersInTurn, CanPollOrdered, ComesOfEach, EntersBack, OrderedWaitsAt, ordered_room}
 use Rattle.futures_buffered_in_flight.specs.declared.in_flight.Came.{Came}
@@ -11,8 +10,6 @@ pub use Rattle.futures_buffered_in_flight.proofs.InFlightQueueLemmas.{new_can_po
 use Rattle.futures_buffered_in_flight.proofs.InFlightQueueLemmas.{added_gives, added_one, flight_count, kept_room, polled_room}
 use Rattle.futures_buffered_in_flight.specs.InFlightQueue.{CanPollQueue, PollsQueued, PushesQueued}
 use Rattle.futures_buffered_core.specs.Made.{MakesSlots}
-use Rattle.futures_buffered.specs.Buffer.{IsNewBuffer}
-use Rattle.futures_buffered_unordered.proofs.StreamAnswersLemmas.{answers_of}
 use Rattle.futures_buffered.proofs.BufferedOrderedLemmas.{starts_some}
 use Rattle.futures_buffered.proofs.BufferUnorderedLemmas.{some_held}
 

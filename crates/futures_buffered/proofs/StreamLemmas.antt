@@ -1,6 +1,5 @@
 -- What came from iterators, queues, streams of futures and joins that have ended.
-use Rattle.std.proofs.Common.{◌≡◌, ℕ, List, [], ◌∷◌, map, length, Option, Some, None, Ok, MatchOption, IsSomeAnd, inl, inr, refl, sym, subst, ap, ◌∙◌}
-use Rattle.futures_buffered.proofs.Common.{map-id, length-replicate, Poll, Runs, Turns, Resolves, Chains, firsts, seconds, Ahead, InTurn, Bounded, HoldsEach}
+use Rattle.futures_buffered.proofs.Common.{◌≡◌, ℕ, List, [], ◌∷◌, map, length, Option, Some, None, Ok, MatchOption, IsSomeAnd, inl, inr, refl, sym, subst, ap, ◌∙◌, map-id, length-replicate, Poll, Runs, Turns, Resolves, Chains, firsts, seconds, Ahead, InTurn, Bounded, HoldsEach}
 use Rattle.std.specs.Iterator.{Drains}
 use Rattle.std.specs.Vec.Iter.{into_iter_items, into_iter_len, into_iter_steps}
 use Rattle.std.specs.declared.vec.IntoIter.{IntoIter}

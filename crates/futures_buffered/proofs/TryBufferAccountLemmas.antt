@@ -1,6 +1,5 @@
 -- What many calls give where the stream gives errors as well, over any queue of which one knows what a push and a poll account for.
-use Rattle.std.proofs.Common.{◌≡◌, List, [], ◌∷◌, ◌++◌, map, Option, Some, None, Result, Ok, Err, refl, inl, inr, append-nil}
-use Rattle.futures_buffered.proofs.Common.{option_to_list, map-append, none-some, Poll, Ready, Pending, output_given, OnlyPushes, PushesOk, WithErrors, futures_of}
+use Rattle.futures_buffered.proofs.Common.{◌≡◌, List, [], ◌∷◌, ◌++◌, map, Option, Some, None, Result, Ok, Err, refl, inl, inr, append-nil, option_to_list, map-append, none-some, Poll, Ready, Pending, output_given, OnlyPushes, PushesOk, WithErrors, futures_of}
 use Rattle.std.proofs.lemmas.List.Elements.{filter_map-append}
 use Rattle.std.specs.Result.{result_ok}
 use Rattle.futures_buffered_unordered.proofs.MergeUnboundedGaveLemmas.{interleaves_on}

@@ -192,8 +192,9 @@ impl<St: Stream, Q: FutureQueue<St::Item>> Stream for Buffer<St, Q> {
 
     /// Takes items from the stream while the queue has room and the stream is ready; then polls the queue once.
     ///
-    /// If a push returns an answer, returns that answer and does not poll the queue; items taken before stay held, and
-    /// the stream continues. Returns `Ready(None)` if the stream has ended and nothing is held, also on later polls.
+    /// If a push returns an answer, as that of an error into a `TryQueue` does, returns that answer and does not poll the
+    /// queue; items taken before stay held, and the stream continues. Returns `Ready(None)` if the stream has ended and
+    /// nothing is held, also on later polls.
     ///
     /// The poll itself does not allocate, and waits for no thread. The polls of stream and futures, and the calls of
     /// the source or of the set of `futures`, may. Takes time in proportion to the items taken and the ready slots

@@ -59,9 +59,9 @@ pub trait FutureQueue<I>: Drop {
         ensures { result ≡ room self.now };
 
     /// Adds the item's future, so that a later poll polls it; or returns an answer at once, and changes nothing. Does
-    /// not poll, and does not wake the task.
+    /// not poll. A push in flight may wake a task whose poll was pending.
     ///
-    /// The queue refuses no item: if an allocation of its push fails, the push does without it.
+    /// The queue refuses no item: if an allocation of its push fails, the future waits until a poll can allocate.
     fn push(&mut self, item: I) -> Option<Self::Output>
         requires room { count self.old < room self.old }
         requires held { as_stream.can_poll self.old }

@@ -1,22 +1,9 @@
 -- One event more keeps what the standing says of the events so far.
-use Rattle.std.proofs.Common.{◌≡◌, ◌≢◌, ◌⊎◌, ℕ, zero, suc, ◌+◌, ◌<◌, ◌≤◌, true, false, eqb, List, [], ◌∷◌, ◌++◌, length, Some, slice_get, refl, sym, ap, subst, ◌∙◌, inl, inr, arith, length-append, append-nil, append_assoc, true≢false}
-use Rattle.std.specs.List.{IsDistinct}
-use Rattle.std.proofs.lemmas.Map.Keys.{IsDistinct-head, IsDistinct-tail}
-use Rattle.std.proofs.lemmas.List.{length-map, map_push, length_push, take-append-le}
-use Rattle.std.proofs.Math.Seq.{take-append_seam}
-use Rattle.std.proofs.lemmas.Option.{slice_get_within}
-use Rattle.std.proofs.lemmas.Bool.Decides.{nat_tests}
-use Rattle.std.proofs.lemmas.Bool.{eqb-true, or_cases, or_right}
+use Rattle.futures_buffered_core.proofs.Common.{◌≡◌, ◌≢◌, ◌⊎◌, ℕ, zero, suc, ◌+◌, ◌<◌, ◌≤◌, true, false, eqb, List, [], ◌∷◌, ◌++◌, length, Some, slice_get, refl, sym, ap, subst, ◌∙◌, inl, inr, arith, append-nil, append_assoc, true≢false, IsDistinct, IsDistinct-head, IsDistinct-tail, length-map, map_push, length_push, take-append-le, take-append_seam, slice_get_within, nat_tests, eqb-true, or_cases, or_right, Reply, Woke, Fresh, Already, Taken, Slot, Empty, Pause, is_marked, MarkGives, TakeGives, IsUnserved, IsRight, IsOldest, StandInOrder, IsStanding, marks_before, replies_before, Answers}
+use Rattle.std.proofs.Common.{length-append}
 use Rattle.futures_buffered_core.specs.declared.ready_core.Event.{Event}
 use Rattle.futures_buffered_core.specs.declared.ready_core.Event.TheVariants as event
-use Rattle.futures_buffered_core.specs.declared.ready_core.Reply.{Reply}
 use Rattle.futures_buffered_core.specs.declared.ready_core.Reply.TheVariants as reply
-use Rattle.futures_buffered_table.specs.declared.answer.Woke.{Woke}
-use Rattle.futures_buffered_table.specs.declared.answer.Woke.TheVariants.{Fresh, Already}
-use Rattle.futures_buffered_table.specs.declared.answer.Taken.{Taken}
-use Rattle.futures_buffered_table.specs.declared.answer.Taken.TheVariants.{Slot, Empty, Pause}
-use Rattle.futures_buffered_core.specs.ReadyCore.{is_marked, MarkGives, TakeGives}
-use Rattle.futures_buffered_core.specs.History.{IsUnserved, IsRight, IsOldest, StandInOrder, IsStanding, marks_before, replies_before, Answers}
 use Rattle.futures_buffered_core.proofs.KeepsOnceLemmas.{head_listed, listed_push, absent_rest}
 
 module _ {X : Type 0} where

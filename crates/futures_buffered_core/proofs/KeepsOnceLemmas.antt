@@ -1,14 +1,7 @@
 -- What a mark and a taking leave of marks and queue.
-use Rattle.std.proofs.Common.{◌≡◌, ℕ, zero, suc, ◌+◌, ◌<◌, ◌≤◌, Bool, true, false, cond, ◌||◌, eqb, List, [], ◌∷◌, ◌++◌, length, get_or, set, replicate, refl, sym, ap, subst, ◌∙◌, arith, length-set}
-use Rattle.std.specs.List.{list_any, IsDistinct, AllByRecursion}
-use Rattle.std.proofs.lemmas.Bool.{or_parts}
-use Rattle.std.proofs.Math.Seq.{get_or-append_seam, set-append_seam}
-use Rattle.std.proofs.lemmas.List.{length-append, length-replicate, get_or-set_same, get_or-set_other, get_or_past, get_or-replicate}
-use Rattle.std.proofs.lemmas.List.Folds.{list_any-append}
-use Rattle.std.proofs.lemmas.Bool.Decides.{nat_tests}
-use Rattle.std.proofs.lemmas.Map.Keys.{IsDistinct-push, IsDistinct-cons, IsDistinct-head, IsDistinct-tail}
+use Rattle.futures_buffered_core.proofs.Common.{◌≡◌, ℕ, zero, suc, ◌+◌, ◌<◌, ◌≤◌, Bool, true, false, cond, ◌||◌, eqb, List, [], ◌∷◌, ◌++◌, length, get_or, set, replicate, refl, sym, ap, subst, ◌∙◌, arith, length-set, list_any, AllByRecursion, or_parts, get_or-append_seam, set-append_seam, length-append, length-replicate, get_or-set_same, get_or-set_other, get_or_past, get_or-replicate, list_any-append, nat_tests, IsDistinct-push, IsDistinct-cons, IsDistinct-head, IsDistinct-tail, KeepsOnce}
+use Rattle.std.specs.List.{IsDistinct}
 use Rattle.std.specs.Cmp.{nat_eq_equiv}
-use Rattle.futures_buffered_core.specs.KeepsOnce.{KeepsOnce}
 
 -- what is in the queue is below the capacity
 pub KeepsOnce-below : (marks : List Bool) (queue : List ℕ) (n i : ℕ) → KeepsOnce marks queue n → list_any (eqb i) queue ≡ true → i < length marks

@@ -1,3 +1,4 @@
+pub mod Common
 pub mod KeepsOnceLemmas
 pub mod ReadyCoreLemmas
 pub mod RangeLemmas

@@ -1,16 +1,8 @@
 -- Marks of slots in order: they keep the number of slots, and a list that begins full makes a source as marks of all its
 -- slots leave it.
-use Rattle.std.proofs.Common.{◌≡◌, ℕ, zero, suc, ◌+◌, List, [], ◌∷◌, refl, sym, ap, ◌∙◌, subst, arith}
-use Rattle.std.specs.List.{range_with_len}
-use Rattle.std.proofs.lemmas.Fn.{FoldsTo-push}
+use Rattle.futures_buffered_core.proofs.Common.{◌≡◌, ℕ, zero, suc, ◌+◌, List, [], ◌∷◌, refl, sym, ap, ◌∙◌, subst, arith, range_with_len, FoldsTo-push, Woke, Fresh, AtomicStep, IsNewShared, MarksShared, Shared, new_publisher, IsMadeMarked, MarksEach, MarksSlot, SourceLaws, SourceSteps}
 use Rattle.futures_buffered_table.specs.Beginning.{all_wakes, entry_before, wake_in_order, wakes_in_order}
-use Rattle.futures_buffered_table.specs.declared.answer.Woke.{Woke}
-use Rattle.futures_buffered_table.specs.declared.answer.Woke.TheVariants.{Fresh}
-use Rattle.futures_buffered_table.specs.declared.view.AtomicStep.{AtomicStep}
 use Rattle.futures_buffered_core.proofs.RangeLemmas.{range_push}
-use Rattle.futures_buffered_core.specs.ReadyShared.{IsNewShared, MarksShared, Shared}
-use Rattle.futures_buffered_core.specs.WakerPlace.{new_publisher}
-use Rattle.futures_buffered_core.specs.ReadySource.{IsMadeMarked, MarksEach, MarksSlot, SourceLaws, SourceSteps}
 
 -- marks of any slots keep the number of slots
 pub marked_slots : {S : Type 0} (marks : S → ℕ → Woke → S → Type 0) (steps : SourceSteps S) (needs : S → ℕ → Type 0) (slots : S → ℕ)

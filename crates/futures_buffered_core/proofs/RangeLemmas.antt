@@ -1,7 +1,6 @@
 -- The numbers from one on: which are among them, that they differ, and one more.
-use Rattle.std.proofs.Common.{◌≡◌, ℕ, zero, suc, ◌+◌, ◌&&◌, eqb, leb, ltb, [], ◌∷◌, ◌++◌, arith, add-one}
-use Rattle.std.specs.List.{list_any, IsDistinct, range_with_len}
-use Rattle.std.proofs.lemmas.Bool.Decides.{nat_tests}
+use Rattle.futures_buffered_core.proofs.Common.{◌≡◌, ℕ, zero, suc, ◌+◌, ◌&&◌, eqb, leb, ltb, [], ◌∷◌, ◌++◌, arith, add-one, list_any, range_with_len, nat_tests}
+use Rattle.std.specs.List.{IsDistinct}
 use Rattle.futures_buffered_core.proofs.KeepsOnceLemmas.{apart_from_absent}
 
 -- the numbers from a on that are less than a + n are listed

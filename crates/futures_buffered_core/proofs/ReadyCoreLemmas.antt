@@ -1,16 +1,10 @@
 -- The row of links of a ready core: what a mark and a taking leave of it.
-use Rattle.std.proofs.Common.{◌≡◌, ◌≢◌, ℕ, zero, suc, ◌+◌, ◌-◌, ◌<◌, ◌≤◌, Bool, true, false, cond, eqb, List, [], ◌∷◌, ◌++◌, length, get_or, set, replicate, refl, sym, ap, subst, ◌∙◌, arith, length-set}
-use Rattle.std.specs.List.{list_any, IsDistinct}
-use Rattle.std.proofs.lemmas.Bool.{or_parts, or_right}
-use Rattle.std.proofs.lemmas.Bool.Decides.{nat_tests}
-use Rattle.std.proofs.lemmas.List.{length-replicate, get_or-set_same, get_or-set_other, get_or-replicate}
+use Rattle.futures_buffered_core.proofs.Common.{◌≡◌, ◌≢◌, ℕ, zero, suc, ◌+◌, ◌-◌, ◌<◌, ◌≤◌, Bool, true, false, cond, eqb, List, [], ◌∷◌, ◌++◌, length, get_or, set, replicate, refl, sym, ap, subst, ◌∙◌, arith, length-set, list_any, IsDistinct, or_parts, or_right, nat_tests, length-replicate, get_or-set_same, get_or-set_other, get_or-replicate, IsDistinct-head, IsDistinct-tail, KeepsOnce, first_link, slots_behind, LeadsThrough, KeepsLinks}
 use Rattle.std.proofs.lemmas.Grind.{get_or_default_zero}
-use Rattle.std.proofs.lemmas.Map.Keys.{IsDistinct-head, IsDistinct-tail}
 use Rattle.std.proofs.lemmas.Map.Steps.{length-le_from_distinct_below}
 use Rattle.futures_buffered_table.specs.Row.{last_entry}
 use Rattle.futures_buffered_table.proofs.RowLemmas.{last_snoc}
-use Rattle.futures_buffered_core.specs.KeepsOnce.{KeepsOnce}
-use Rattle.futures_buffered_core.specs.ReadyCoreInvariant.{first_link, slots_behind, slots_of, LeadsThrough, KeepsLinks}
+use Rattle.futures_buffered_core.specs.ReadyCoreInvariant.{slots_of}
 use Rattle.futures_buffered_core.proofs.KeepsOnceLemmas.{KeepsOnce-below, KeepsOnce-first, KeepsOnce-mark, KeepsOnce-none, KeepsOnce-take, absent_rest}
 
 first_at_stub : (links : List ℕ) (n : ℕ) → first_link links n n ≡ get_or links n 0

@@ -1,12 +1,6 @@
 -- What a dequeue of a shared source returns, and what its poller does at the place.
-use Rattle.std.proofs.Common.{◌≡◌, ℕ, ◌<◌, List, length, ap, arith}
+use Rattle.futures_buffered_core.proofs.Common.{◌≡◌, ℕ, ◌<◌, List, length, ap, arith, Taken, Slot, Empty, Pause, AtomicStep, CallsAtStub, IsNameBelow, GivesUp, Poller, PublishesOwn, publisher_of}
 use mathlib.Core.Logic.{inl, inr}
-use Rattle.futures_buffered_table.specs.declared.answer.Taken.{Taken}
-use Rattle.futures_buffered_table.specs.declared.answer.Taken.TheVariants.{Slot, Empty, Pause}
-use Rattle.futures_buffered_table.specs.declared.view.AtomicStep.{AtomicStep}
-use Rattle.futures_buffered_table.specs.Taking.{CallsAtStub}
-use Rattle.futures_buffered_core.specs.ReadyCore.{IsNameBelow}
-use Rattle.futures_buffered_core.specs.WakerPlace.{GivesUp, Poller, PublishesOwn, publisher_of}
 
 -- a taking that names only slots below n, told of what n is
 pub name_below : (n m : ℕ) (taken : Taken) → ((slot : ℕ) → taken ≡ Slot slot → slot < n) → n ≡ m → IsNameBelow m taken

@@ -1,9 +1,5 @@
 -- What a taking leaves of a list of answers.
-use Rattle.std.proofs.Common.{◌≡◌, ℕ, suc, List, ◌++◌, length, Option, Some, None, ap, arith}
-use Rattle.std.specs.Option.{option_to_list}
-use Rattle.futures_buffered_table.specs.declared.answer.Taken.{Taken}
-use Rattle.futures_buffered_table.specs.declared.answer.Taken.TheVariants.{Slot}
-use Rattle.futures_buffered_core.specs.WrongName.{NamesAllBelow}
+use Rattle.futures_buffered_core.proofs.Common.{◌≡◌, ℕ, suc, List, ◌++◌, length, Option, Some, None, ap, arith, option_to_list, Taken, Slot, NamesAllBelow}
 
 -- the answers after the first name slots below the capacity, as all did
 pub NamesAllBelow-rest : (cap : ℕ) (answers rest : List Taken) (given : Option Taken) → NamesAllBelow Slot cap answers (length answers)

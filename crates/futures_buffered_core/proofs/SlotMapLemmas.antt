@@ -1,19 +1,7 @@
 -- What each call leaves of the places and the free ones.
-use Rattle.std.proofs.Common.{◌≡◌, ◌≢◌, true≢false, MatchOption, ℕ, zero, suc, ◌+◌, ◌-◌, ◌<◌, ◌≤◌, Bool, true, false, cond, eqb, List, [], ◌∷◌, ◌++◌, map, length, get_or, set, replicate, Option, Some, None, is_some, IsSome, count_by, refl, sym, ap, subst, ◌∙◌, arith, length-set}
-use Rattle.std.specs.Option.{is_none}
-use Rattle.std.specs.List.{list_any, range_with_len, IsDistinct}
-use Rattle.std.proofs.lemmas.Bool.{or_parts}
-use Rattle.std.proofs.lemmas.List.{length-append, map_push, length-replicate, map-set, length-map, get_or_append_left, get_or-map, get_or_past, get_or-replicate, get_or-set_same, get_or-set_other, get_or_read}
-use Rattle.std.proofs.Math.Seq.{map-set_same, get_or-append_seam}
+use Rattle.futures_buffered_core.proofs.Common.{◌≡◌, ◌≢◌, true≢false, MatchOption, ℕ, zero, suc, ◌+◌, ◌-◌, ◌<◌, ◌≤◌, Bool, true, false, cond, eqb, List, [], ◌∷◌, ◌++◌, map, length, get_or, set, replicate, Option, Some, None, is_some, IsSome, count_by, refl, sym, ap, subst, ◌∙◌, arith, length-set, is_none, list_any, range_with_len, IsDistinct, or_parts, length-append, map_push, length-replicate, map-set, length-map, get_or_append_left, get_or-map, get_or_past, get_or-replicate, get_or-set_same, get_or-set_other, get_or_read, map-set_same, get_or-append_seam, sum_by-replicate, nat_tests, IsDistinct-head, Place, Free, Held, Slots, IsFirstHeld, Inserts, GrowsByOne, no_slots, all_slots, with_value, with_slot_freed, value_of, next_free, free_from, free_list, slots_of, KeepsPlaces, new_places}
 use Rattle.std.proofs.lemmas.List.FromFn.{length-map-range_with_len, get_or-map-range_with_len, map-range_with_len_more}
-use Rattle.std.proofs.lemmas.List.Folds.{sum_by-replicate}
 use Rattle.std.proofs.lemmas.List.Sums.{sum_by-append, sum_by-set, sum_by-cons, count_by-le-length}
-use Rattle.std.proofs.lemmas.Bool.Decides.{nat_tests}
-use Rattle.std.proofs.lemmas.Map.Keys.{IsDistinct-head}
-use Rattle.futures_buffered_core.specs.declared.slot_map.Place.{Place}
-use Rattle.futures_buffered_core.specs.declared.slot_map.Place.TheVariants.{Free, Held}
-use Rattle.futures_buffered_core.specs.SlotMap.{Slots, IsFirstHeld, Inserts, GrowsByOne, no_slots, all_slots, with_value, with_slot_freed}
-use Rattle.futures_buffered_core.specs.SlotMapInvariant.{value_of, next_free, free_from, free_list, slots_of, KeepsPlaces, new_places}
 use Rattle.futures_buffered_core.proofs.RangeLemmas.{listed_range, range_distinct}
 use Rattle.futures_buffered_core.proofs.KeepsOnceLemmas.{KeepsOnce-first, KeepsOnce-take, KeepsOnce-marked, KeepsOnce-return, KeepsOnce-none, KeepsOnce-grow, KeepsOnce-below, head_listed, absent_rest}
 

@@ -1,5 +1,5 @@
 -- Each step of a one-shot keeps its rule.
-use Rattle.std.proofs.Common.{◌≡◌, ◌≢◌, ◌⊎◌, inl, inr, ℕ, zero, suc, List, [], ◌∷◌, ◌++◌, length, get_or, set, refl, sym, ap, ◌∙◌, subst, ⊎_elim, eqb, eq-eqb, ne_eqb, arith}
+use Rattle.futures_buffered_held.proofs.Common.{◌≡◌, ◌≢◌, ◌⊎◌, inl, inr, ℕ, zero, suc, List, [], ◌∷◌, ◌++◌, length, get_or, set, refl, sym, ap, ◌∙◌, subst, ⊎_elim, eqb, eq-eqb, ne_eqb, arith, State, Me, Act, keeps, takes, gives, chain, carried_after, homes_after, Valid, stepped, Allows, Splits, Joins, opening, Left, Nothing, View, Spent, Both, Sender, Writing, Sent, Waiting, Idle, Got, Compared, Inside, value_of, IsHome, IsSent, Fits, HoldsOne, place_at, sent_by, sent_view, finished, opened, looked, turned, matched}
 use Rattle.std.specs.Prelude.{Option, Some, None}
 use Rattle.std.proofs.lemmas.Option.{none-some}
 use mathlib.Core.Logic.{dite}
@@ -8,13 +8,7 @@ use prog.Atomic.{either}
 use mathlib.Core.Option as maybe
 use mathlib.Core.Option.{some, none, some-ne-none, some-injective}
 use lib.ListN.{get_elem?}
-use Rattle.atomic_table.specs.Table.{State, Me, Act, keeps, takes, gives, chain, carried_after, homes_after, Valid, stepped, Allows, Splits, Joins, opening}
 use Rattle.atomic_table.proofs.Lists.{at_set}
-use Rattle.futures_buffered_held.specs.declared.oneshot_place.Left.{Left}
-use Rattle.futures_buffered_held.specs.declared.oneshot_place.Left.TheVariants.{Nothing}
-use Rattle.futures_buffered_held.specs.declared.oneshot_place.View.{View}
-use Rattle.futures_buffered_held.specs.declared.oneshot_place.View.TheVariants.{Spent, Both, Sender, Writing, Sent, Waiting, Idle, Got, Compared}
-use Rattle.futures_buffered_held.specs.OneshotPlace.{Inside, value_of, IsHome, IsSent, Fits, HoldsOne, place_at, sent_by, sent_view, finished, opened, looked, turned, matched}
 
 at_end : {A : Type 0} (l : List A) (a b : A) (j : ℕ) → get_elem? (l ++ a ∷ []) j ≡ some b → (get_elem? l j ≡ some b) ⊎ ((j ≡ length l) × (a ≡ b))
 at_end [] a b zero e = inr (refl, some-injective a b e)

@@ -1,5 +1,5 @@
 -- What many polls of a receiver make of it.
-use Rattle.std.proofs.Common.{◌≡◌, List, [], ◌∷◌, ◌++◌, Option, Some, None, refl, sym, ap, subst, append-nil, append_assoc, ◌∙◌}
+use Rattle.futures_buffered_held.proofs.Common.{◌≡◌, List, [], ◌∷◌, ◌++◌, Option, Some, None, refl, sym, ap, subst, append-nil, append_assoc, ◌∙◌}
 use mathlib.Core.List.{IsPrefix}
 use Rattle.std.specs.List.{FoldsTo}
 use Rattle.rtrb.specs.declared.consumer.Consumer.{Consumer}

@@ -14,7 +14,8 @@ use Rattle.futures.specs.Runs.{Runs, Within}
 use Rattle.futures.specs.Task.{Covers, Keeps}
 use Rattle.futures_buffered_core.specs.SlotMap.{held_count, no_slots}
 use Rattle.futures_buffered_unordered.specs.FuturesUnorderedBounded.{IsWoken}
-use Rattle.futures_buffered_in_flight.specs.InFlight.{Cancels, CanPollAll, Flights, FlightsWaitAt, FutureOf, IsHeld, MayCome, run_count, without_key}
+use Rattle.futures_buffered_in_flight.specs.InFlight.{Cancels, CanPollAll, Flights, FlightsWaitAt, FutureOf, HasNoRoom, IsHeld, MayCome}
+use Rattle.futures_buffered_in_flight.specs.InFlight.{run_count, without_key}
 use Rattle.futures_buffered_in_flight.specs.declared.in_flight.Came.{Came}
 use Rattle.futures_buffered_in_flight.specs.declared.run.Key.{Key}
 
@@ -35,6 +36,11 @@ made_set (Some set) = set
 -- how many streams are held
 abbrev pub streams_held : {St : Type 0} → Merged St → ℕ
 streams_held m = held_count m.set.slots
+
+-- a push may be refused: as many streams are held as can be, or as many futures occupy room as there are slots, so that a
+-- slot has to be made, or the push numbers are used up
+abbrev pub MayRefuseStream : {St : Type 0} → Merged St → Type 0
+MayRefuseStream m = (m.limit ≤ streams_held m) ⊎ HasNoRoom m.set
 
 -- no stream is held, also none that was cancelled, and there is room for `n`
 abbrev pub IsNewMerge : {St : Type 0} → ℕ → Merged St → Type 0
@@ -116,8 +122,9 @@ module _ {St A : Type 0} (stream : StreamOf St A) where
     pub went_in : IfOk result (λ key. StreamEnters old.set pushed key new.set)
     -- if the push is refused, it returns the stream, and nothing changes
     pub back : IfErr result (λ back. (back ≡ pushed) × (new ≡ old))
-    -- if there is no room, the push is refused
+    -- the push is refused if as many streams are held as can be, and only if a push may be refused
     pub full : old.limit ≤ streams_held old → IsErr result
+    pub room : IsErr result → MayRefuseStream old
     pub same_limit : new.limit ≡ old.limit
     -- the merge may be polled
     pub again : CanPollStreams new

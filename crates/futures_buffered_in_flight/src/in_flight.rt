@@ -370,11 +370,12 @@ impl<F: Future<Output: Drop>, T: Drop, K> FuturesUnorderedBy<F, T, K> {
     /// before.
     ///
     /// The slot is free at once. A poll that returns `None` drops the future; a pending poll drops it, or wakes the
-    /// task to poll again. Until then the future counts in `is_full`.
+    /// task to poll again. Until then the future counts in `is_full`, so that a push may be refused.
     ///
     /// In a bounded set, takes the same time at any capacity. In a growing set, takes time in proportion to the number
-    /// of its tables of bells, one for each doubling. Wakes the task that polled the future last. After polls by two
-    /// tasks, it may wake the earlier task alone. Another future may be woken too, and is then polled once more.
+    /// of its tables of bells, one for each doubling. Wakes the task that polled the future last, if any did. After
+    /// polls by two tasks, it may wake only the task that polled earlier. Another future may be woken too, and is then
+    /// polled once more.
     #[tactic(auto, using(crate::proofs::InFlightLemmas::same_can_poll))]
     pub fn cancel(&mut self, key: Key) -> Option<T>
         requires { CanPollAll F.Future self.old }

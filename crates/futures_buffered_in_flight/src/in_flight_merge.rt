@@ -2,12 +2,13 @@
 //!
 //! A merge owns a set of futures in flight. Each of these holds a stream, and returns its next answer with the stream.
 //! After an item the merge pushes the stream again, into the same slot and under the number of its first push.
-ghost use Rattle.std.specs.Prelude.{◌≡◌, ◌^◌, ◌-◌, ◌≤◌, ◌↔◌, IfOk, IfErr, IsTrue};
+ghost use Rattle.std.specs.Prelude.{◌≡◌, ◌^◌, ◌-◌, ◌≤◌, ◌↔◌, IfOk, IfErr, IsErr, IsTrue};
 ghost use Rattle.futures_buffered_core.specs.Drawn.{IsFiniteSource, items_of};
 ghost use Rattle.futures_buffered_unordered.specs.Extended.{EachDrawn, Extends, HoldsAllOf};
-ghost use Rattle.futures_buffered_in_flight.specs.InFlight.{CanPollAll};
+ghost use Rattle.futures_buffered_in_flight.specs.InFlight.{CanPollAll, HasNoRoom};
 ghost use Rattle.futures_buffered_in_flight.specs.InFlightMerge.{CancelsStream, CanPollStreams, ComesFromMerged};
-ghost use Rattle.futures_buffered_in_flight.specs.InFlightMerge.{HoldsStreams, IsNewMerge, MergedWaitsAt, PollsMerge, PollsUnkeyed};
+ghost use Rattle.futures_buffered_in_flight.specs.InFlightMerge.{HoldsStreams, IsNewMerge, MayRefuseStream, MergedWaitsAt};
+ghost use Rattle.futures_buffered_in_flight.specs.InFlightMerge.{PollsMerge, PollsUnkeyed};
 ghost use Rattle.futures_buffered_in_flight.specs.InFlightMerge.{PushesStream, StreamEnters, StreamWentIn, next_of};
 ghost use Rattle.futures_buffered_in_flight.specs.InFlightMerge.{streams_held};
 
@@ -31,6 +32,7 @@ impl<St: Stream<Item: Drop>, K: Kind> FuturesUnorderedBy<StreamFuture<St>, u64, 
         requires new { St.can_poll stream }
         ensures went_in { IfOk result (λ key. StreamEnters St.Stream self.old stream key self.new) }
         ensures back { IfErr result (λ back. (back ≡ stream) × (self.new ≡ self.old)) }
+        ensures room { IsErr result → HasNoRoom self.old }
         ensures again { CanPollAll (next_of St.Stream) self.new }
     {
         if !self.make_room() {
@@ -165,7 +167,7 @@ impl<St: Stream<Item: Drop>> MergeBounded<St> {
     ///
     /// If each slot is in use, allocates for one slot more. Many pushes together take time and allocate in proportion
     /// to their number. If a further allocation for the stream fails, the stream waits, and a later poll tries again.
-    /// Wakes a task whose poll was pending only if a stream waits so: the caller sees to it that the merge is polled.
+    /// Wakes a task whose poll was pending.
     #[tactic(auto, using(crate::proofs::InFlightLemmas::none_can_poll, crate::proofs::InFlightMergeLemmas::first_set))]
     pub fn try_push(&mut self, stream: St) -> Result<Key, St>
         requires held { CanPollStreams St.Stream self.old }
@@ -190,7 +192,8 @@ impl<St: Stream<Item: Drop>> MergeBounded<St> {
     /// held. If not, changes nothing: the stream has ended, or it was cancelled or cleared before.
     ///
     /// A poll that returns `None` drops the stream; a pending poll drops it, or wakes the task to poll again. Until then
-    /// the stream occupies a slot. Takes the time that `cancel` of a growing set takes, and wakes as that does.
+    /// a push may make one slot more, and `is_full` does not count the stream. Takes the time that `cancel` of a growing
+    /// set takes, and wakes as that does.
     #[tactic(auto, using(crate::proofs::InFlightMergeLemmas::none_holds))]
     pub fn cancel(&mut self, key: Key) -> bool
         requires { CanPollStreams St.Stream self.old }
@@ -236,7 +239,7 @@ impl<St: Stream<Item: Drop>> MergeBounded<St> {
         requires held { CanPollStreams St.Stream self.old }
         requires each { EachDrawn (items_of I.IntoIterator I.IntoIter.Iterator iter) St.can_poll }
         ensures extends { Extends (items_of I.IntoIterator I.IntoIter.Iterator iter)
-            (StreamWentIn St.Stream) (λ old new. new ≡ old) self.old result self.new }
+            (StreamWentIn St.Stream) (λ old new. MayRefuseStream old × (new ≡ old)) self.old result self.new }
         ensures same_limit { self.new.limit ≡ self.old.limit }
         ensures again { CanPollStreams St.Stream self.new }
     {

@@ -1,18 +1,7 @@
 -- What a poll of a set in flight says of the places of a join.
-use Rattle.std.proofs.Common.{◌≡◌, ℕ, Bool, List, [], ◌∷◌, length, map, replicate, Option, Some, None, is_some, true, cond, refl, sym, ap, subst, inl, inr, arith, ◌∙◌}
-use Rattle.std.specs.List.{count_by}
-use Rattle.std.proofs.lemmas.List.{map-set}
-use Rattle.std.proofs.lemmas.List.Sums.{sum_by-cons, count_by-le-length}
-use Rattle.std.proofs.lemmas.Bool.{cases_eq}
-use Rattle.futures.specs.declared.task.context.Context.{Context}
-use Rattle.futures.specs.declared.task.Poll.TheVariants.{Ready, Pending}
-use Rattle.futures_buffered_core.specs.SlotMap.{Slots, value_in, slot_count, with_slot_freed}
-use Rattle.futures_buffered_unordered.proofs.HeldGivesLemmas.{None-Some, value_in-with_slot_freed, value_in-with_slot_freed_other}
-use Rattle.futures_buffered_in_flight.specs.InFlight.{FutureOf, Flights, CanPollAll, FliesInOrder, FlightsWaitAt, PollsInFlight, SlotGives}
+use Rattle.futures_buffered_joins.proofs.Common.{◌≡◌, ℕ, Bool, List, [], ◌∷◌, length, map, replicate, Option, Some, None, is_some, true, cond, refl, sym, ap, subst, inl, inr, arith, ◌∙◌, count_by, map-set, sum_by-cons, count_by-le-length, cases_eq, Context, Ready, Pending, Slots, value_in, slot_count, with_slot_freed, None-Some, value_in-with_slot_freed, value_in-with_slot_freed_other, FutureOf, Flights, CanPollAll, FliesInOrder, FlightsWaitAt, PollsInFlight, SlotGives, PlacedPollsOf, PollsPlaced, FlightsGive, flights_waiting}
 use Rattle.futures_buffered_in_flight.specs.declared.in_flight.Came.{Came}
 use Rattle.futures_buffered_in_flight.specs.declared.in_flight.Place.{Place}
-use Rattle.futures_buffered_joins.specs.Placed.{PlacedPollsOf, PollsPlaced}
-use Rattle.futures_buffered_joins.specs.InFlightJoin.{FlightsGive, flights_waiting}
 use Rattle.futures_buffered_joins.proofs.SlotsJoinLemmas.{waits_at}
 
 -- if as many are counted as there are, each is there

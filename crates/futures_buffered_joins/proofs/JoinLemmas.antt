@@ -1,20 +1,12 @@
 -- What one poll of a join says of what it may be ready with.
-use Rattle.std.proofs.Common.{◌≡◌, ℕ, ◌+◌, ◌<◌, Bool, false, List, [], ◌∷◌, ◌++◌, length, map, get_or, set, replicate, Option, Some, None, IsSomeAnd, Ok, Err, refl, sym, ap, subst, inl, inr, arith, ◌∙◌, length-set, slice_get}
-use Rattle.std.specs.List.{FoldsTo}
-use Rattle.std.proofs.lemmas.List.{get_or-set_same, get_or-set_other, get_or_past, get_or-replicate, length-replicate}
-use Rattle.std.proofs.lemmas.Option.{slice_get_within}
+use Rattle.futures_buffered_joins.proofs.Common.{◌≡◌, ℕ, ◌+◌, ◌<◌, Bool, false, List, [], ◌∷◌, ◌++◌, length, map, get_or, set, replicate, Option, Some, None, IsSomeAnd, Ok, Err, refl, sym, ap, subst, inl, inr, arith, ◌∙◌, slice_get, FoldsTo, get_or-set_same, get_or-set_other, get_or_past, get_or-replicate, length-replicate, slice_get_within, cases_eq, cases_lt, Context, Poll, Ready, Pending, MayComeAt, WaitsOrCame, output_in, waiting_count, PlacedPollsOf, PollsPlaced}
+use Rattle.std.proofs.Common.{length-set}
 use Rattle.std.proofs.lemmas.Fn.{FoldsTo-push}
-use Rattle.std.proofs.lemmas.Bool.{cases_eq, cases_lt}
 use Rattle.futures.specs.Poll.{IfReady}
 use Rattle.futures.specs.Task.{Keeps}
-use Rattle.futures.specs.declared.task.context.Context.{Context}
-use Rattle.futures.specs.declared.task.Poll.{Poll}
-use Rattle.futures.specs.declared.task.Poll.TheVariants.{Ready, Pending}
 use Rattle.futures_buffered_joins.specs.declared.outputs.Places.{Places}
 use Rattle.futures_buffered_joins.specs.Join.{Fills, IsNewJoin, JoinGives, JoinMayGive, JoinRuleOf, JoinsByPlace, PollsJoin, PollsPending, StaysPending, join_places}
 use Rattle.futures_buffered_joins.specs.JoinRule.{Outcome}
-use Rattle.futures_buffered_joins.specs.Outputs.{MayComeAt, WaitsOrCame, output_in, waiting_count}
-use Rattle.futures_buffered_joins.specs.Placed.{PlacedPollsOf, PollsPlaced}
 use Rattle.futures_buffered_joins.proofs.OutputsLemmas.{all_now, none_came, one_fewer, filled_in_order}
 
 -- a join that was made over a set of these items is new, and has a place for each

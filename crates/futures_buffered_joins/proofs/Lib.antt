@@ -1,3 +1,4 @@
+pub mod Common
 pub mod OutputsLemmas
 pub mod JoinLemmas
 pub mod SlotsJoinLemmas

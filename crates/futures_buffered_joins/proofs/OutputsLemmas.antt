@@ -1,10 +1,6 @@
 -- What the outputs of a join hold at places where a future waits, and once none does.
-use Rattle.std.proofs.Common.{◌≡◌, ℕ, ◌+◌, ◌-◌, ◌<◌, ◌≤◌, zero, suc, Bool, List, [], ◌∷◌, ◌++◌, drop, length, map, get_or, set, replicate, Option, Some, None, IsSome, true, false, cond, refl, sym, ap, subst, arith, ◌∙◌}
+use Rattle.futures_buffered_joins.proofs.Common.{◌≡◌, ℕ, ◌+◌, ◌-◌, ◌<◌, ◌≤◌, zero, suc, Bool, List, [], ◌∷◌, ◌++◌, drop, length, map, get_or, set, replicate, Option, Some, None, IsSome, true, false, cond, refl, sym, ap, subst, arith, ◌∙◌, append-nil, get_or-map, length-map, map-set, sum_by-cons, get_or_from_slice_get, slice_get_within, WaitsOrCame, MayComeAll, came_by_place, from_the_first, output_in, waiting_count}
 use Rattle.std.specs.Option.{is_none}
-use Rattle.std.proofs.lemmas.List.{append-nil, get_or-map, length-map, map-set}
-use Rattle.std.proofs.lemmas.List.Sums.{sum_by-cons}
-use Rattle.std.proofs.lemmas.Option.{get_or_from_slice_get, slice_get_within}
-use Rattle.futures_buffered_joins.specs.Outputs.{WaitsOrCame, MayComeAll, came_by_place, from_the_first, output_in, waiting_count}
 
 -- at a place where a future waits nothing has come
 pub none_came : {A : Type 0} (outputs : List (Option A)) (k : ℕ) → get_or (map is_none outputs) k false ≡ true → (k < length outputs) × (output_in outputs k ≡ None)
@@ -69,11 +65,6 @@ pub later_below : {A : Type 0} (n : ℕ) (later : List (Option A)) (k : ℕ) →
     → k - 1 < length later
 later_below zero later k wide below far = absurd (omega (arith, below))
 later_below (suc n) later k wide below far = omega (arith, wide, below, far)
-
--- a list of new places
-pub none_at_first : {A : Type 0} (n : ℕ) (later : List (Option A)) → later ≡ replicate (n - 1) None → from_the_first n later ≡ replicate n None
-none_at_first zero later none = none
-none_at_first (suc n) later none = ap (λ (l : List _). None ∷ l) (none ∙ ap (λ (k : ℕ). replicate k None) (omega arith))
 
 -- as many places as there are in all
 pub as_many : {A : Type 0} (gathered : List A) (all : List (Option A)) → length gathered ≤ length all → length (came_by_place gathered all) ≡ length all

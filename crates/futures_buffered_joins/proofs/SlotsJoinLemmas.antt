@@ -1,24 +1,10 @@
 -- What a poll of a set of slots says of the places of a join.
-use Rattle.std.proofs.Common.{◌≡◌, ℕ, zero, suc, Bool, List, [], ◌∷◌, length, map, get_or, set, replicate, Option, Some, None, IfSome, is_some, true, false, cond, refl, sym, ap, subst, inl, inr, arith, ◌∙◌, slice_get}
-use Rattle.std.specs.List.{FoldsTo, count_by}
-use Rattle.std.proofs.lemmas.List.{get_or-map, map-set}
-use Rattle.std.proofs.lemmas.List.Sums.{sum_by-cons}
-use Rattle.std.proofs.lemmas.Option.{get_or_from_slice_get, slice_get_within}
-use Rattle.std.proofs.lemmas.Bool.{cases_eq}
-use Rattle.futures.specs.declared.task.context.Context.{Context}
-use Rattle.futures.specs.declared.task.Poll.{Poll}
-use Rattle.futures.specs.declared.task.Poll.TheVariants.{Ready, Pending}
-use Rattle.futures_buffered_core.specs.SlotMap.{Slots, value_in, slot_count, with_slot_freed}
+use Rattle.futures_buffered_joins.proofs.Common.{◌≡◌, ℕ, zero, suc, Bool, List, [], ◌∷◌, length, map, get_or, set, replicate, Option, Some, None, IfSome, is_some, true, false, cond, refl, sym, ap, subst, inl, inr, arith, ◌∙◌, slice_get, FoldsTo, count_by, get_or-map, map-set, sum_by-cons, get_or_from_slice_get, slice_get_within, cases_eq, Context, Poll, Ready, Pending, Slots, value_in, slot_count, with_slot_freed, Bounded, HoldsEach, gives_others, gives_passed, value_in-with_slot_freed, value_in-with_slot_freed_other, waiting_count, PlacedPollsOf, PollsPlaced, ItemMayGive, MayGiveAt, ReadySourceOf, SlotFutureOf, SlotsGive, slots_waiting}
 use Rattle.futures_buffered_table.specs.declared.answer.Woke.{Woke}
 use Rattle.futures_buffered_unordered.specs.Held.{AllHeld, AnyMayGive, MayGive, Passes, Yields}
-use Rattle.futures_buffered_unordered.specs.FuturesUnorderedBounded.{Bounded, HoldsEach, with_empty_slot}
 use Rattle.futures_buffered_unordered.specs.PollsBounded.{RegistersAndTakes, itself}
 use Rattle.futures_buffered_unordered.proofs.HeldLemmas.{some_from_end}
-use Rattle.futures_buffered_unordered.proofs.HeldGivesLemmas.{gives_others, gives_passed, value_in-with_slot_freed, value_in-with_slot_freed_other}
 use Rattle.futures_buffered_unordered.proofs.PollsBoundedLemmas.{takes_held}
-use Rattle.futures_buffered_joins.specs.Outputs.{waiting_count}
-use Rattle.futures_buffered_joins.specs.Placed.{PlacedPollsOf, PollsPlaced}
-use Rattle.futures_buffered_joins.specs.SlotsJoin.{ItemMayGive, MayGiveAt, ReadySourceOf, SlotFutureOf, SlotsGive, slots_waiting}
 
 -- as many futures wait as are held
 pub held_waiting : {P : Type 0} (places : List (Option P)) → count_by is_some places ≡ waiting_count (map is_some places)
@@ -82,7 +68,7 @@ module _ {F W O S : Type 0} (future : SlotFutureOf F W O) (source : ReadySourceO
     may_give = λ (b : Bounded F S). MayGiveAt future.polled b.slots;
   }
 
-  pub output_came : (old before new : Bounded F S) (i : ℕ) (x : O) (cx left : Context) → RegistersAndTakes (itself future) source old (Ready (i, x)) before cx left → new ≡ with_empty_slot before i → PollsPlaced slots_waiting placed old (Ready (i, x)) new cx left
+  pub output_came : (old before new : Bounded F S) (i : ℕ) (x : O) (cx left : Context) → RegistersAndTakes (itself future) source old (Ready (i, x)) before cx left → new ≡ record before { slots = with_slot_freed before.slots i } → PollsPlaced slots_waiting placed old (Ready (i, x)) new cx left
   output_came old before new i x cx left h is =
       let takes = h.takes in
       record {

@@ -5,9 +5,9 @@ use Rattle.futures.specs.declared.task.Poll.{Poll}
 use Rattle.futures.specs.declared.task.Poll.TheVariants.{Ready, Pending}
 use Rattle.futures.specs.declared.task.context.Context.{Context}
 pub use Rattle.futures_buffered_core.specs.declared.ready_source.ReadySource.{Ghosts as ReadySourceOf}
-use Rattle.futures_buffered_core.specs.SlotMap.{Slots, value_in}
+use Rattle.futures_buffered_core.specs.SlotMap.{Slots, value_in, with_slot_freed}
 use Rattle.futures_buffered_unordered.specs.Held.{MayGive}
-use Rattle.futures_buffered_unordered.specs.FuturesUnorderedBounded.{Bounded, with_empty_slot}
+use Rattle.futures_buffered_unordered.specs.FuturesUnorderedBounded.{Bounded}
 use Rattle.futures_buffered_unordered.specs.PollsBounded.{RegistersAndTakes, itself}
 pub use Rattle.futures_buffered_unordered.specs.declared.slot_future.SlotFuture.{Ghosts as SlotFutureOf}
 
@@ -29,5 +29,5 @@ module _ {F W O S : Type 0} (future : SlotFutureOf F W O) (source : ReadySourceO
   abbrev pub SlotsGive : Bounded F S → Poll (ℕ × O) → Bounded F S → Context → Context → Type 0
   SlotsGive old (Ready came) new cx left = (before : Bounded F S)
       × RegistersAndTakes (itself future) source old (Ready came) before cx left
-      × (new ≡ with_empty_slot before came.0)
+      × (new ≡ record before { slots = with_slot_freed before.slots came.0 })
   SlotsGive old Pending new cx left = RegistersAndTakes (itself future) source old Pending new cx left

@@ -62,8 +62,8 @@ impl JoinName for AllOutputs {
     }
 }
 
-/// Makes a join of these futures, in their order, which are woken from any thread. It is `JoinAll::over` with a shared
-/// source, and fails as that does.
+/// Makes a join of these futures, with the outputs in their order. Any thread may wake them. It is `JoinAll::over` with
+/// a shared source, and fails as that does.
 pub fn join_all<I: IntoIterator>(
     alloc: Global,
     iter: I,

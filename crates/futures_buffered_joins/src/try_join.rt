@@ -59,8 +59,8 @@ impl JoinName for UntilError {
     }
 }
 
-/// Makes a join of these futures, in their order, which are woken from any thread. It is `TryJoinAll::over` with a
-/// shared source, and fails as that does.
+/// Makes a join of these futures, with the outputs in their order. Any thread may wake them. It is `TryJoinAll::over`
+/// with a shared source, and fails as that does.
 pub fn try_join_all<I: IntoIterator, T, E>(
     alloc: Global,
     iter: I,

@@ -1,9 +1,5 @@
 -- Who has the place. Agents have numbers: 0 is the poller, 1 a sibling, and from 2 on come the wakes of the seats.
-use Rattle.std.proofs.Common.{◌≡◌, ◌≢◌, ℕ, zero, suc, refl, sym, ap, ◌∙◌, subst, inl, inr}
-use Rattle.std.specs.Prelude.{Option, Some, None}
-use Rattle.std.proofs.lemmas.Bool.{cases_eq}
-use Rattle.futures_buffered_lost_wakeup.specs.Agents.{Errand, Inside, Turn, TakesBack, LaysOut, Fills, Sibling, Writes, Has}
-use Rattle.futures_buffered_lost_wakeup.specs.Scene.{Stage, Vacant, Filling, FillingBetween, Kept, Lent, AWake, ThePoller, ASibling, changed, word}
+use Rattle.futures_buffered_lost_wakeup.proofs.Common.{◌≡◌, ◌≢◌, ℕ, zero, suc, refl, sym, ap, ◌∙◌, subst, inl, inr, Option, Some, None, cases_eq, Errand, Inside, Turn, TakesBack, LaysOut, Fills, Sibling, Writes, Has, Stage, Vacant, Filling, FillingBetween, Kept, Lent, AWake, ThePoller, ASibling, changed, word}
 use Rattle.futures_buffered_lost_wakeup.proofs.SceneLemmas.{changed_else}
 
 -- the place as an agent has it, by where the agent is

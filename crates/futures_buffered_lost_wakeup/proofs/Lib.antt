@@ -1,3 +1,4 @@
+pub mod Common
 pub mod SceneLemmas
 pub mod HolderLemmas
 pub mod SceneInvariantLemmas

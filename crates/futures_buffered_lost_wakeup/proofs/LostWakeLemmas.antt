@@ -1,25 +1,8 @@
--- The steps at the list keep a scene too, and so no wake is lost.
-use Rattle.std.proofs.Common.{◌≡◌, ◌≢◌, ◌⊎◌, ℕ, zero, suc, ◌<◌, Bool, List, [], ◌∷◌, ◌++◌, true, false, map, get_or, refl, sym, ap, ◌∙◌, subst, inl, inr, ⊎_elim, arith, append-nil}
-use Rattle.std.specs.Prelude.{◌==◌, Option, Some, None}
-use Rattle.futures_buffered_table.proofs.Common.{outside_by, mark, next_role, next_view, reply_of_role, first_poller, new_waker_beside, role_of, spent_view, CanStep, seat_of, slot_of, after_step, found_at, view_at, set_else, set_here, get_or-map, some, some-injective, get_elem?}
-use Rattle.std.proofs.lemmas.Bool.{cases_lt}
-use Rattle.futures_buffered_table.specs.declared.answer.Taken.TheVariants.{Slot, Empty, Pause}
-use Rattle.futures_buffered_table.specs.declared.answer.Woke.TheVariants.{Fresh}
+-- The steps at the list also preserve what holds of a scene, and so no wake is lost.
+use Rattle.futures_buffered_lost_wakeup.proofs.Common.{◌≡◌, ◌≢◌, ◌⊎◌, ℕ, zero, suc, ◌<◌, Bool, List, [], ◌∷◌, ◌++◌, true, false, map, get_or, refl, sym, ap, ◌∙◌, subst, inl, inr, ⊎_elim, arith, append-nil, ◌==◌, Option, Some, None, outside_by, mark, next_role, next_view, reply_of_role, first_poller, new_waker_beside, role_of, spent_view, CanStep, seat_of, slot_of, after_step, found_at, view_at, set_else, set_here, get_or-map, some, some-injective, get_elem?, cases_lt, Slot, Empty, Pause, Fresh, StepReply, More, Woke, Taken, WAKE_SEATS, Role, Idle, Won, Cleared, Swapped, Polls, View, in_hand, put_by, row_slots, total_none, IsReachable, pending, reachable_start, step_reaches, IsPolls, role_polls, Rests, Looks, Turn, Parked, Registers, Asks, Met, Sibling, Away, Writes, LetsGo, Scene, Stage, Vacant, Event, InList, WakeDoes, PollerDoes, SiblingDoes, WakeWakes, PollerWakes, SiblingWakes, FromSibling, Begin, DropsOther, KeepOwn, Lacks, Misses, Stop, MakesSibling, IsDropped, AllRest, CanDo, IsAtStart, IsAtStub, IsBetween, Legal, NoWakeIsLost, after, after_reply, first, owner, changed, poller_role, run, with_errand, with_woken}
 use Rattle.futures_buffered_table.specs.declared.step.Step.{Step}
 use Rattle.futures_buffered_table.specs.declared.step.Step.TheVariants.{Mark, Go, Poll}
-use Rattle.futures_buffered_table.specs.declared.step.StepReply.{StepReply}
-use Rattle.futures_buffered_table.specs.declared.step.StepReply.TheVariants.{More, Woke, Taken}
-use Rattle.futures_buffered_table.specs.declared.step.TheConstants.{WAKE_SEATS}
-use Rattle.futures_buffered_table.specs.declared.view.Role.{Role}
-use Rattle.futures_buffered_table.specs.declared.view.Role.TheVariants.{Idle, Won, Cleared, Swapped, Polls}
-use Rattle.futures_buffered_table.specs.declared.view.View.{View}
 use Rattle.futures_buffered_table.proofs.ListLemmas.{by_test, elem_at, last_at, place_low}
-use Rattle.futures_buffered_table.proofs.RowLemmas.{in_hand, put_by, row_slots, total_none}
-use Rattle.futures_buffered_table.proofs.ScheduleLemmas.{IsReachable, pending, reachable_start, step_reaches}
-use Rattle.futures_buffered_table.proofs.EffectLemmas.{IsPolls, role_polls}
-use Rattle.futures_buffered_lost_wakeup.specs.Agents.{Rests, Looks, Turn, Parked, Registers, Asks, Met, Sibling, Away, Writes, LetsGo}
-use Rattle.futures_buffered_lost_wakeup.specs.Scene.{Scene, Stage, Vacant, Event, InList, WakeDoes, PollerDoes, SiblingDoes, WakeWakes, PollerWakes, SiblingWakes, FromSibling}
-use Rattle.futures_buffered_lost_wakeup.specs.Scene.{Begin, DropsOther, KeepOwn, Lacks, Misses, Stop, MakesSibling, IsDropped, AllRest, CanDo, IsAtStart, IsAtStub, IsBetween, Legal, NoWakeIsLost, after, after_reply, first, owner, changed, poller_role, run, with_errand, with_woken}
 use Rattle.futures_buffered_lost_wakeup.proofs.SceneLemmas.{IsEmpty, IsTaken, IsWoke, changed_here, empty_at_stub, hand_at_start, none_at_stub, polls_wake_none, stub_polls, taken_starts, times_none, woken_by, woken_stays}
 use Rattle.futures_buffered_lost_wakeup.proofs.HolderLemmas.{Agrees, held_by, held_by_turn}
 use Rattle.futures_buffered_lost_wakeup.proofs.SceneInvariantLemmas.{ArmedIn, Busy, Heads, Heard, IsKept, IsSwapped, IsWaiting, Owned, WakesNext, Seen, SiblingDrops, SwapsIn, Waits, armed_by, way_here}

@@ -1,12 +1,5 @@
 -- The steps at the place, of wakes, the poller and siblings, keep a scene.
-use Rattle.std.proofs.Common.{◌≡◌, ◌≢◌, ◌⊎◌, ℕ, zero, suc, Bool, true, false, refl, sym, ap, ◌∙◌, subst, inl, inr, ⊎_elim}
-use Rattle.std.specs.Prelude.{Option, Some, None}
-use Rattle.futures_buffered_place.specs.declared.view.Deed.TheVariants.{Look, Win, WinFree, Lose, Put, Leave}
-use Rattle.futures_buffered_lost_wakeup.specs.Agents.{Act, Errand, Rests, Looks, Tries, Inside, Wakes, IsRight, wake_after, turn_after, sibling_after, wanted_by_turn}
-use Rattle.futures_buffered_lost_wakeup.specs.Agents.{Turn, Parked, Registers, GoesBack, TakesBack, Asks, GoesOut, GoesFree, LaysOut, Fills, Met}
-use Rattle.futures_buffered_lost_wakeup.specs.Agents.{Sibling, Away, GoesKept, GoesVacant, Writes, Has, LetsGo}
-use Rattle.futures_buffered_lost_wakeup.specs.Scene.{Scene, Stage, Vacant, Filling, FillingBetween, Kept, Lent, AWake, ThePoller, ASibling, word}
-use Rattle.futures_buffered_lost_wakeup.specs.Scene.{IsAway, IsTrueOf, changed, poller_did, sibling_did, wake_did, with_errand, with_woken}
+use Rattle.futures_buffered_lost_wakeup.proofs.Common.{◌≡◌, ◌≢◌, ◌⊎◌, ℕ, zero, suc, Bool, true, false, refl, sym, ap, ◌∙◌, subst, inl, inr, ⊎_elim, Option, Some, None, Look, Win, WinFree, Lose, Put, Leave, Act, Errand, Rests, Looks, Tries, Inside, Wakes, IsRight, wake_after, turn_after, sibling_after, wanted_by_turn, Turn, Parked, Registers, GoesBack, TakesBack, Asks, GoesOut, GoesFree, LaysOut, Fills, Met, Sibling, Away, GoesKept, GoesVacant, Writes, Has, LetsGo, Scene, Stage, Vacant, Filling, FillingBetween, Kept, Lent, AWake, ThePoller, ASibling, word, IsAway, IsTrueOf, changed, poller_did, sibling_did, wake_did, with_errand, with_woken}
 use Rattle.futures_buffered_lost_wakeup.proofs.SceneLemmas.{changed_here, woken_by, woken_stays}
 use Rattle.futures_buffered_lost_wakeup.proofs.HolderLemmas.{Agrees, held_by, held_by_sibling, held_by_turn, held_by_wake, holder, leaves, moves, sibling_else, some_same, turn_else, vacant_at, wake_else, wins}
 use Rattle.futures_buffered_lost_wakeup.proofs.SceneInvariantLemmas.{Armed, ArmedIn, Busy, Carries, Heads, Heard, IsKept, IsWaiting, Owned, SiblingDrops, armed_by, armed_parked, some_on, way_here, way_of_armed}

@@ -1,25 +1,15 @@
 -- The shapes of calls are runs of the law.
-use Rattle.std.proofs.Common.{◌≡◌, ◌≢◌, ◌⊎◌, ℕ, zero, suc, Bool, true, false, List, [], ◌∷◌, map, refl, sym, ap, ◌∙◌, subst, inl, inr}
-use Rattle.std.specs.Prelude.{◌==◌, if◌then◌else◌, Option, Some, None}
+use Rattle.futures_buffered_lost_wakeup.proofs.Common.{◌≡◌, ◌≢◌, ◌⊎◌, ℕ, zero, suc, Bool, true, false, List, [], ◌∷◌, map, refl, sym, ap, ◌∙◌, subst, inl, inr, ◌==◌, if◌then◌else◌, Option, Some, None, Empty, Pause, StepReply, Role, Fresh, Already, More, Woke, Taken, AtomicStep, Idle, Polls, Look, Lose, Errand, Rests, Looks, Tries, Inside, Wakes, Turn, Registers, GoesBack, TakesBack, Asks, GoesOut, GoesFree, LaysOut, Fills, Met, Sibling, Away, GoesKept, GoesVacant, Writes, Has, LetsGo, sibling_after, turn_after, wake_after, wanted_by_sibling, wanted_by_turn}
 use Rattle.futures_buffered_table.specs.declared.answer.Taken.{Taken as TakenAnswer}
-use Rattle.futures_buffered_table.specs.declared.answer.Taken.TheVariants.{Empty, Pause}
-use Rattle.futures_buffered_table.specs.declared.step.StepReply.{StepReply}
 use Rattle.futures_buffered_table.specs.declared.view.AtomicStep.TheVariants.{LinkClear, TailSwap, LinkWrite, TailRead, Unmark}
 use Rattle.futures_buffered_table.specs.declared.view.Phase.TheVariants.{Start, AtStub, Moved, NoNext, Last, StubLinked, InHand}
-use Rattle.futures_buffered_table.specs.declared.view.Role.{Role}
 use Rattle.futures_buffered_table.specs.Taking.{IsTaking, IsReadAgain, IsAtLast, IsFromSlot, IsFromStub, IsAtStub}
 use Rattle.futures_buffered_table.specs.declared.answer.Woke.{Woke as WokeAnswer}
-use Rattle.futures_buffered_table.specs.declared.answer.Woke.TheVariants.{Fresh, Already}
-use Rattle.futures_buffered_table.specs.declared.step.StepReply.TheVariants.{More, Woke, Taken}
-use Rattle.futures_buffered_table.specs.declared.view.AtomicStep.{AtomicStep}
-use Rattle.futures_buffered_table.specs.declared.view.Role.TheVariants.{Idle, Polls}
 use Rattle.futures_buffered_table.specs.Waking.{IsWake}
 use Rattle.futures_buffered_place.specs.declared.place.Put.{Put as Answer}
 use Rattle.futures_buffered_place.specs.declared.place.Put.TheVariants.{Kept, Busy}
 use Rattle.futures_buffered_place.specs.declared.view.Deed.{Deed}
-use Rattle.futures_buffered_place.specs.declared.view.Deed.TheVariants.{Look, Lose}
 use Rattle.futures_buffered_place.specs.History.{IsPutIn, IsTakeOut, IsMet}
-use Rattle.futures_buffered_lost_wakeup.specs.Agents.{Errand, Rests, Looks, Tries, Inside, Wakes, Turn, Registers, GoesBack, TakesBack, Asks, GoesOut, GoesFree, LaysOut, Fills, Met, Sibling, Away, GoesKept, GoesVacant, Writes, Has, LetsGo, sibling_after, turn_after, wake_after, wanted_by_sibling, wanted_by_turn}
 use Rattle.futures_buffered_lost_wakeup.proofs.SceneLemmas.{same_no, same_yes}
 use Rattle.futures_buffered_lost_wakeup.specs.Runs.{CallsAreRuns, IsListRun, IsRun, act_of, errand_with, turn_with, sibling_with}
 

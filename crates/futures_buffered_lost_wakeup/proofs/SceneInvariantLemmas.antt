@@ -1,16 +1,5 @@
 -- What each scene keeps, and what stays of it if one thing changes.
-use Rattle.std.proofs.Common.{◌≡◌, ◌≢◌, ◌⊎◌, ℕ, ◌<◌, List, [], true, sym, ap, ◌∙◌, subst, inl, inr, ⊎_elim}
-use Rattle.std.specs.Prelude.{Some, None}
-use Rattle.std.proofs.lemmas.Bool.{cases_eq}
-use Rattle.futures_buffered_table.proofs.Common.{some, get_elem?}
-use Rattle.futures_buffered_table.specs.declared.step.TheConstants.{WAKE_SEATS}
-use Rattle.futures_buffered_table.specs.declared.view.Role.{Role}
-use Rattle.futures_buffered_table.specs.declared.view.Role.TheVariants.{Swapped}
-use Rattle.futures_buffered_table.specs.declared.view.View.{View}
-use Rattle.futures_buffered_table.proofs.ScheduleLemmas.{IsReachable, pending}
-use Rattle.futures_buffered_lost_wakeup.specs.Agents.{Errand, Rests, Looks, Tries, Inside, Wakes, Turn, Parked, Registers, GoesBack, TakesBack, Met}
-use Rattle.futures_buffered_lost_wakeup.specs.Agents.{Sibling, Writes, Has, LetsGo}
-use Rattle.futures_buffered_lost_wakeup.specs.Scene.{Scene, Kept, IsAtStart, changed}
+use Rattle.futures_buffered_lost_wakeup.proofs.Common.{◌≡◌, ◌≢◌, ◌⊎◌, ℕ, ◌<◌, List, [], true, sym, ap, ◌∙◌, subst, inl, inr, ⊎_elim, Some, None, cases_eq, some, get_elem?, WAKE_SEATS, Role, Swapped, View, IsReachable, pending, Errand, Rests, Looks, Tries, Inside, Wakes, Turn, Parked, Registers, GoesBack, TakesBack, Met, Sibling, Writes, Has, LetsGo, Scene, Kept, IsAtStart, changed}
 use Rattle.futures_buffered_lost_wakeup.proofs.SceneLemmas.{changed_else, changed_here}
 use Rattle.futures_buffered_lost_wakeup.proofs.HolderLemmas.{Agrees, held_by}
 

@@ -1,21 +1,7 @@
 -- Values by their numbers, and what a poller's role and its replies say of the row.
-use Rattle.std.proofs.Common.{◌≡◌, ◌≢◌, ℕ, ◌<◌, Bool, true, false, List, [], ◌∷◌, ◌++◌, get_or, refl, sym, ap, ◌∙◌, subst, inl, inr, arith}
-use Rattle.std.specs.Prelude.{◌==◌, if◌then◌else◌}
-use Rattle.std.proofs.lemmas.Bool.{cases_eq, cases_lt}
+use Rattle.futures_buffered_lost_wakeup.proofs.Common.{◌≡◌, ◌≢◌, ℕ, ◌<◌, Bool, true, false, List, [], ◌∷◌, ◌++◌, get_or, refl, sym, ap, ◌∙◌, subst, inl, inr, arith, ◌==◌, if◌then◌else◌, cases_eq, cases_lt, times, KeepsRow, next_role, reply_of_role, word_of_role, some, get_elem?, Empty, StepReply, Woke, Taken, WAKE_SEATS, AtomicStep, Role, Polls, View, alone, in_hand, put_by, row_slots, same_else, slots_slot, slots_stub, IsPolls, IsAtStart, IsAtStub, changed}
 use Rattle.std.proofs.lemmas.Bool.Decides.{nat_tests}
-use Rattle.futures_buffered_table.proofs.Common.{times, KeepsRow, next_role, reply_of_role, word_of_role, some, get_elem?}
-use Rattle.futures_buffered_table.specs.declared.answer.Taken.TheVariants.{Empty}
-use Rattle.futures_buffered_table.specs.declared.step.StepReply.{StepReply}
-use Rattle.futures_buffered_table.specs.declared.step.StepReply.TheVariants.{Woke, Taken}
-use Rattle.futures_buffered_table.specs.declared.step.TheConstants.{WAKE_SEATS}
-use Rattle.futures_buffered_table.specs.declared.view.AtomicStep.{AtomicStep}
 use Rattle.futures_buffered_table.specs.declared.view.Phase.{Phase}
-use Rattle.futures_buffered_table.specs.declared.view.Role.{Role}
-use Rattle.futures_buffered_table.specs.declared.view.Role.TheVariants.{Polls}
-use Rattle.futures_buffered_table.specs.declared.view.View.{View}
-use Rattle.futures_buffered_table.proofs.RowLemmas.{alone, in_hand, put_by, row_slots, same_else, slots_slot, slots_stub}
-use Rattle.futures_buffered_table.proofs.EffectLemmas.{IsPolls}
-use Rattle.futures_buffered_lost_wakeup.specs.Scene.{IsAtStart, IsAtStub, changed}
 
 pub same_yes : (a b : ℕ) → a ≡ b → (a == b) ≡ true
 same_yes a b is = grind (arith, nat_tests)

@@ -1,4 +1,4 @@
--- The steps of the law are those of the calls: each shape of steps that a contract allows to a call is one way of an agent
+-- The steps of the law are those of the calls: each shape of steps that a contract allows to a call is a run of one agent
 -- of the law, from where the call begins to where it ends.
 use Rattle.std.specs.Prelude.{◌≡◌, ℕ, Bool, List, [], ◌∷◌, Option, Some, None, map}
 use Rattle.futures_buffered_table.specs.declared.answer.Taken.{Taken as TakenAnswer}

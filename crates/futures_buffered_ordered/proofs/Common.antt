@@ -1,5 +1,5 @@
 -- The names that proofs of this crate use in more than one file.
-pub use Rattle.std.proofs.Common.{ap, arith, rules, subst, sym, ◌∙◌}
+pub use Rattle.std.proofs.Common.{Bool, Err, IfNone, IfSome, List, MatchOption, None, Ok, OnSome, Option, Some, [], add-one, ap, arith, cond, count_by, false, inl, inr, is_some, length, length-set, max, refl, rules, set, subst, suc, sym, true, vec_len, zero, ℕ, ◌%◌, ◌*◌, ◌++◌, ◌+◌, ◌-◌, ◌<◌, ◌==◌, ◌^◌, ◌∙◌, ◌∷◌, ◌≡◌, ◌≤◌, ◌⊎◌}
 pub use Rattle.std.proofs.lemmas.Bool.{cases_lt, eq-eqb}
 pub use Rattle.std.proofs.lemmas.Fn.{FoldsTo-push}
 pub use Rattle.std.proofs.lemmas.Grind.{common_steps}
@@ -19,6 +19,8 @@ pub use Rattle.futures_buffered_core.specs.ReadyShared.{IsNewShared, MarksShared
 pub use Rattle.futures_buffered_core.specs.SlotMap.{Inserts, Slots, held_count, no_slots, slot_count, value_in, with_slot_freed, with_value}
 pub use Rattle.futures_buffered_core.specs.declared.ready_source.ReadySource.{Ghosts as ReadySourceOf}
 pub use Rattle.futures_buffered_table.specs.declared.answer.TheConstants.{MAX_CAPACITY}
+pub use Rattle.futures_buffered_unordered.proofs.FuturesUnorderedBoundedLemmas.{poll_counted, poll_gave, poll_still}
+pub use Rattle.futures_buffered_unordered.proofs.FuturesUnorderedStreamLemmas.{PollsOneGroup}
 pub use Rattle.futures_buffered_unordered.proofs.StreamAnswersLemmas.{answers_of, covers_fewer}
 pub use Rattle.futures_buffered_unordered.specs.FuturesUnordered.{Growing, IsNewGrowing, SetRefuses, held_in_all}
 pub use Rattle.futures_buffered_unordered.specs.FuturesUnorderedBounded.{Bounded, Pushes, held_in, slots_in}

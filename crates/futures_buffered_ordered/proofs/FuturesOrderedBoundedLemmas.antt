@@ -1,6 +1,5 @@
 -- What holds of an ordered queue over a bounded set: what a new one keeps, how many names a poll takes, and what may come.
-use Rattle.std.proofs.Common.{◌≡◌, ℕ, ◌+◌, ◌*◌, ◌<◌, ◌≤◌, List, [], ◌∷◌, ◌++◌, length, cond, is_some, Option, Some, None, IfNone, sym, refl, ap, subst, arith, ◌∙◌, add-one}
-use Rattle.futures_buffered_ordered.proofs.Common.{FoldsTo, append_assoc, length-replicate, sum_by-replicate, MAX_CAPACITY, Covers, IfReady, OnPending, Context, Poll, Ready, Pending, slot_count, slots_in, held_count, no_slots, Bounded, held_in, ReadySourceOf, PollOneOf, EndsPending, PollsBounded, covers_fewer, held_with, of_numbered, BesideTask, Ordered, OrderedGives, SetYields, with_task, OrderedBounded, PollsOrderedBounded, SetGives, TakesFewNames, names_of_row, KeepsQueue, Numbered}
+use Rattle.futures_buffered_ordered.proofs.Common.{◌≡◌, ℕ, ◌+◌, ◌*◌, ◌<◌, ◌≤◌, List, [], ◌∷◌, ◌++◌, length, cond, is_some, Option, Some, None, IfNone, sym, refl, ap, subst, arith, ◌∙◌, add-one, FoldsTo, append_assoc, length-replicate, sum_by-replicate, MAX_CAPACITY, Covers, IfReady, OnPending, Context, Poll, Ready, Pending, slot_count, slots_in, held_count, no_slots, Bounded, held_in, ReadySourceOf, PollOneOf, EndsPending, PollsBounded, covers_fewer, held_with, of_numbered, BesideTask, Ordered, OrderedGives, SetYields, with_task, OrderedBounded, PollsOrderedBounded, SetGives, TakesFewNames, names_of_row, KeepsQueue, Numbered}
 use Rattle.std.proofs.Math.Nat.{mul-le-mul_left, mul-suc}
 use Rattle.futures_buffered_table.specs.declared.answer.Taken.{Taken}
 use Rattle.futures_buffered_table.specs.declared.answer.Taken.TheVariants.{Slot, Empty, Pause}

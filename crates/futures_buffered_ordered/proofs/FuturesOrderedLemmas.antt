@@ -1,9 +1,7 @@
 -- How many futures with a number a set that grows holds, before and after its calls.
-use Rattle.std.proofs.Common.{◌≡◌, ℕ, ◌+◌, [], Option, refl, ap, inl, inr, arith, ◌∙◌}
-use Rattle.futures_buffered_ordered.proofs.Common.{sum_by-cons, Context, Poll, held_in, Growing, IsNewGrowing, held_in_all, ReadySourceOf, PollOneOf, unless_registered, held_with, of_numbered, outputs_with, Numbered, OrderedGrowing, held_in_groups, held_in_groups_with, KeepsQueue}
+use Rattle.futures_buffered_ordered.proofs.Common.{◌≡◌, ℕ, ◌+◌, [], Option, refl, ap, inl, inr, arith, ◌∙◌, sum_by-cons, Context, Poll, held_in, Growing, IsNewGrowing, held_in_all, ReadySourceOf, PollOneOf, unless_registered, held_with, of_numbered, outputs_with, Numbered, OrderedGrowing, held_in_groups, held_in_groups_with, KeepsQueue, PollsOneGroup}
 use Rattle.futures_buffered_unordered.specs.PollsGrowing.{PollsGrowing}
 use Rattle.futures_buffered_unordered.proofs.FuturesUnorderedLemmas.{new_holds_none}
-use Rattle.futures_buffered_unordered.proofs.FuturesUnorderedStreamLemmas.{PollsOneGroup}
 use Rattle.futures_buffered_unordered.proofs.GroupsLemmas.{turns_sum}
 use Rattle.futures_buffered_ordered.proofs.NumberedLemmas.{numbers_polled, numbers_ended, numbers_none}
 use Rattle.futures_buffered_ordered.proofs.OrderedEntriesInvariantLemmas.{new_is_numbered}

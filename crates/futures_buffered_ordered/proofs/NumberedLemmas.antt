@@ -1,6 +1,5 @@
 -- How many futures with a number a bounded set holds, before and after its calls.
-use Rattle.std.proofs.Common.{◌≡◌, ℕ, ◌+◌, ◌<◌, ◌≤◌, ◌==◌, Bool, true, false, cond, List, [], ◌∷◌, length, set, count_by, Option, Some, None, MatchOption, is_some, refl, sym, subst, ap, inl, inr, arith, ◌∙◌}
-use Rattle.futures_buffered_ordered.proofs.Common.{FoldsTo, sum_by, get_or_past, sum_by-replicate, sum_by-cons, sum_by-set, cases_lt, Context, Poll, Ready, Pending, Slots, value_in, held_count, no_slots, with_value, with_slot_freed, Inserts, Bounded, Pushes, ReadySourceOf, PollOneOf, PollsBounded, PollsNumbered, has_number, held_with, of_numbered, one_at, outputs_with, Numbered}
+use Rattle.futures_buffered_ordered.proofs.Common.{◌≡◌, ℕ, ◌+◌, ◌<◌, ◌≤◌, ◌==◌, Bool, true, false, cond, List, [], ◌∷◌, length, set, count_by, Option, Some, None, MatchOption, is_some, refl, sym, subst, ap, inl, inr, arith, ◌∙◌, FoldsTo, sum_by, get_or_past, sum_by-replicate, sum_by-cons, sum_by-set, cases_lt, Context, Poll, Ready, Pending, Slots, value_in, held_count, no_slots, with_value, with_slot_freed, Inserts, Bounded, Pushes, ReadySourceOf, PollOneOf, PollsBounded, PollsNumbered, has_number, held_with, of_numbered, one_at, outputs_with, Numbered}
 use Rattle.futures_buffered_table.specs.declared.answer.Woke.{Woke}
 use Rattle.futures_buffered_unordered.specs.Held.{Passes, Yields}
 use Rattle.futures_buffered_unordered.proofs.HeldLemmas.{value_in-with_value}

@@ -1,6 +1,5 @@
 -- What the calls of an ordered queue make of its entries and their numbers.
-use Rattle.std.proofs.Common.{◌≡◌, ◌⊎◌, ℕ, zero, suc, ◌+◌, ◌-◌, ◌^◌, ◌%◌, ◌<◌, ◌≤◌, Bool, true, cond, List, [], ◌∷◌, ◌++◌, length, set, count_by, Option, Some, None, Ok, Err, refl, sym, subst, ap, inl, inr, arith, ◌∙◌}
-use Rattle.futures_buffered_ordered.proofs.Common.{slice_get, sum_by, sum_by-cons, sum_by-set, sum_by_push, count_by-le-length, eq-eqb, Context, Ready, NumberedPollsOf, PollsNumberedSet, PushesInto, one_at, outputs_with, AddsBack, AddsFront, BesideTask, Entry, IsLength, IsUnused, Kept, MayRefuse, NoNumberTwice, NumberedSetOf, Ordered, PushesOrHandsBack, QueueIsAtBound, Running, SetYields, is_running, runs_with, starts_running, AddingKeeps, IsNumbered, KeepsQueue, entry_of, numbered_from}
+use Rattle.futures_buffered_ordered.proofs.Common.{◌≡◌, ◌⊎◌, ℕ, zero, suc, ◌+◌, ◌-◌, ◌^◌, ◌%◌, ◌<◌, ◌≤◌, Bool, true, cond, List, [], ◌∷◌, ◌++◌, length, set, count_by, Option, Some, None, Ok, Err, refl, sym, subst, ap, inl, inr, arith, ◌∙◌, slice_get, sum_by, sum_by-cons, sum_by-set, sum_by_push, count_by-le-length, eq-eqb, Context, Ready, NumberedPollsOf, PollsNumberedSet, PushesInto, one_at, outputs_with, AddsBack, AddsFront, BesideTask, Entry, IsLength, IsUnused, Kept, MayRefuse, NoNumberTwice, NumberedSetOf, Ordered, PushesOrHandsBack, QueueIsAtBound, Running, SetYields, is_running, runs_with, starts_running, AddingKeeps, IsNumbered, KeepsQueue, entry_of, numbered_from}
 use Rattle.std.proofs.lemmas.Bool.Decides.{eqb_tells}
 use Rattle.std.proofs.lemmas.Option.{slice_get_within, get_or_from_slice_get}
 use Rattle.futures_buffered_unordered.specs.Groups.{outputs_in}

@@ -1,6 +1,5 @@
 -- What the calls of an ordered queue add, and what its polls may still give.
-use Rattle.std.proofs.Common.{◌≡◌, ◌⊎◌, ℕ, ◌+◌, ◌≤◌, List, [], ◌∷◌, ◌++◌, ◌∙◌, ap, arith, count_by, inl, inr, length, length-set, set, true, Option, Some, None, MatchOption, IfSome, IfNone, OnSome, refl, sym, subst, zero, suc}
-use Rattle.futures_buffered_ordered.proofs.Common.{FoldsTo, slice_get, FoldsTo-push, length_push, Covers, Keeps, Context, Poll, Ready, Pending, IfReady, OnPending, StreamAnswers, stream_of, answers_of, Entry, Kept, Running, Ordered, AddsBack, AddsEachBack, AddsFront, SetYields, LastStep, OrderedGives, BesideTask, with_task, InTurn, EntryGives, ComesInOrder, IsUnused, runs_with, starts_running}
+use Rattle.futures_buffered_ordered.proofs.Common.{◌≡◌, ◌⊎◌, ℕ, ◌+◌, ◌≤◌, List, [], ◌∷◌, ◌++◌, ◌∙◌, ap, arith, count_by, inl, inr, length, length-set, set, true, Option, Some, None, MatchOption, IfSome, IfNone, OnSome, refl, sym, subst, zero, suc, FoldsTo, slice_get, FoldsTo-push, length_push, Covers, Keeps, Context, Poll, Ready, Pending, IfReady, OnPending, StreamAnswers, stream_of, answers_of, Entry, Kept, Running, Ordered, AddsBack, AddsEachBack, AddsFront, SetYields, LastStep, OrderedGives, BesideTask, with_task, InTurn, EntryGives, ComesInOrder, IsUnused, runs_with, starts_running}
 use Rattle.futures.specs.Runs.{Runs, After, Within, Chains, Leads, Ends}
 use Rattle.futures_buffered_ordered.proofs.OrderedEntriesInvariantLemmas.{entry_with}
 

@@ -1,7 +1,6 @@
 -- What `futures` asks of a poll of an ordered queue, by any rule.
 use Rattle.std.specs.Prelude.{◌<◌, ℕ, Option, Some}
-use Rattle.futures_buffered_ordered.proofs.Common.{Context, Poll, Ready, held_in, ReadySourceOf, PollOneOf, OfSomeTask, StreamAnswers, stream_of, NumberedPollsOf, of_numbered, ComesInOrder, Ordered, PollsOrdered, EachRunning, OrderedBounded, PollsOrderedBounded, SameSize, SetMayGive, bounded_polls}
-use Rattle.futures_buffered_unordered.proofs.FuturesUnorderedBoundedLemmas.{poll_gave, poll_still}
+use Rattle.futures_buffered_ordered.proofs.Common.{Context, Poll, Ready, held_in, ReadySourceOf, PollOneOf, OfSomeTask, StreamAnswers, stream_of, NumberedPollsOf, of_numbered, ComesInOrder, Ordered, PollsOrdered, EachRunning, OrderedBounded, PollsOrderedBounded, SameSize, SetMayGive, bounded_polls, poll_gave, poll_still}
 use Rattle.futures_buffered_ordered.proofs.OrderedEntriesLemmas.{gives_alone, queue_answers}
 
 -- `came` and `narrows` are the laws of `StreamedSet`

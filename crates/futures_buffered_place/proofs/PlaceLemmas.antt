@@ -1,22 +1,14 @@
 -- Each step on a place keeps its rule.
-use Rattle.std.proofs.Common.{◌≡◌, ◌≢◌, ℕ, zero, suc, ◌+◌, ◌<◌, ◌≤◌, List, [], ◌∷◌, ◌++◌, set, get_or, Bool, true, false, refl, sym, ap, ◌∙◌, subst, ⊎_elim, arith}
-use Rattle.std.specs.Prelude.{Option, Some, None}
+use Rattle.futures_buffered_place.proofs.Common.{◌≡◌, ◌≢◌, ℕ, zero, suc, ◌+◌, ◌<◌, ◌≤◌, List, [], ◌∷◌, ◌++◌, set, get_or, Bool, true, false, refl, sym, ap, ◌∙◌, subst, ⊎_elim, arith, Option, Some, None, eqb, State, Me, Act, keeps, takes, gives, rest, Splits, Enters, Allows, Valid, stepped, carried_after, Nothing, Filling, Taken, View, Look, Win, WinFree, Lose, Put, Leave, total, alone_by, beside_by, filling_by, taken_by, Stage, word_of, home_of, filling_count, lent_count, kept_weight, KeepsPlace, laid, HoldsPlace, put_by, won_by, put_weight, taken_weight, does, looks, leaves_next, alone_looks, TellsTaking, after_put, free_taken, beside_of, new_beside, new_taker, kept_at_home, RuleLosesNone, vacant, filling, kept, lent}
 use mathlib.Core.Option.{some, some-injective, some-ne-none}
 use lib.ListN.{get_elem?}
 use prog.Atomic.{either}
-use Rattle.std.proofs.Common.{eqb}
-use Rattle.atomic_table.specs.Table.{State, Me, Act, keeps, takes, gives, rest, Splits, Enters, Allows, Valid, stepped, carried_after}
 use Rattle.atomic_table.proofs.Lists.{at_set, at_snoc}
 use Rattle.futures_buffered_place.specs.declared.view.Right.TheVariants.{Alone, Beside}
 use Rattle.futures_buffered_place.specs.declared.view.Hand.{Hand}
-use Rattle.futures_buffered_place.specs.declared.view.Hand.TheVariants.{Nothing, Filling, Taken}
-use Rattle.futures_buffered_place.specs.declared.view.View.{View}
 use Rattle.futures_buffered_place.specs.declared.view.PlaceStep.{PlaceStep}
 use Rattle.futures_buffered_place.specs.declared.view.Deed.{Deed}
-use Rattle.futures_buffered_place.specs.declared.view.Deed.TheVariants.{Look, Win, WinFree, Lose, Put, Leave}
-use Rattle.futures_buffered_place.specs.Place.{total, alone_by, beside_by, filling_by, taken_by, Stage, word_of, home_of, filling_count, lent_count, kept_weight, KeepsPlace, laid, HoldsPlace, put_by, won_by, put_weight, taken_weight, does, looks, leaves_next, alone_looks, TellsTaking, after_put, free_taken, beside_of, new_beside, new_taker, kept_at_home, RuleLosesNone}
 use Rattle.futures_buffered_place.specs.PlaceInvariant.{right_of}
-use Rattle.futures_buffered_place.specs.Place.{vacant, filling, kept, lent}
 
 pub total-append : {X : Type 0} (f : X → ℕ) (xs ys : List X) → total f (xs ++ ys) ≡ total f xs + total f ys
 total-append f [] ys = omega arith

@@ -1,13 +1,5 @@
 -- Which steps a call at a place has made.
-use Rattle.std.proofs.Common.{◌≡◌, ◌≢◌, ℕ, zero, suc, List, [], ◌∷◌, Bool, true, false, refl, sym, ap, ◌∙◌, subst, inl, inr}
-use Rattle.std.specs.Prelude.{Option, Some, None}
-use Rattle.atomic_table.specs.Table.{Me}
-use Rattle.futures_buffered_place.specs.declared.view.Hand.TheVariants.{Nothing, Filling, Taken}
-use Rattle.futures_buffered_place.specs.declared.view.View.{View}
-use Rattle.futures_buffered_place.specs.declared.view.Deed.TheVariants.{Look, Win, WinFree, Lose, Put, Leave}
-use Rattle.futures_buffered_place.specs.declared.place.Put.TheVariants.{Kept, Busy}
-use Rattle.futures_buffered_place.specs.History.{TakesOut}
-use Rattle.futures_buffered_place.specs.Place.{does, done, looks, alone_looks, free_taken, TellsTaking, puts_next, leaves_next, PutsBy, TakesBy}
+use Rattle.futures_buffered_place.proofs.Common.{◌≡◌, ◌≢◌, ℕ, zero, suc, List, [], ◌∷◌, Bool, true, false, refl, sym, ap, ◌∙◌, subst, inl, inr, Option, Some, None, Me, Nothing, Filling, Taken, View, Look, Win, WinFree, Lose, Put, Leave, Kept, Busy, TakesOut, does, done, looks, alone_looks, free_taken, TellsTaking, puts_next, leaves_next, PutsBy, TakesBy}
 use Rattle.futures_buffered_place.proofs.PlaceLemmas.{won}
 
 module _ {O : Type 0} where

@@ -1,12 +1,6 @@
 -- A list begins with its row, full or not: a full list has the words and the steps that wakes of its slots, in order,
 -- leave.
-use Rattle.std.proofs.Common.{◌≡◌, ◌≢◌, ℕ, zero, suc, ◌+◌, ◌<◌, ◌≤◌, List, [], ◌∷◌, ◌++◌, Bool, true, false, length, get_or, set, refl, sym, ap, ◌∙◌, subst, ⊎_elim, arith, append_assoc, length-set, get_or-set_other, get_or-set_same}
-use Rattle.futures_buffered_table.proofs.Common.{AtomicStep, MarkSwap, LinkClear, TailSwap, LinkWrite, Role, Idle, Won, Cleared, Swapped, View, owed_by, total, outside_by, empty_words, link, mark, tail, tail_at, is_unmark, unmarks, wins, next_role, put_by_role, step_of_role, word_of_role, first_poller, HoldsRow, Me, TableId, at_set, at_snoc, set-get_or, some, some-injective, some-ne-none, get_elem?}
-use Rattle.atomic_table.specs.Table.{Splits}
-use Rattle.futures_buffered_table.specs.declared.rule.ListKey.{ListKey}
-use Rattle.futures_buffered_table.specs.Beginning.{all_wakes, entry_before, first_view, full_words, steps_at_first, wake_in_order, wakes_in_order, words_at_first, words_in_order}
-use Rattle.futures_buffered_table.specs.ReadyListInvariant.{KeepsPoller, KeepsWaker}
-use Rattle.futures_buffered_table.specs.View.{waker_with_steps_of, without_steps}
+use Rattle.futures_buffered_table.proofs.Common.{◌≡◌, ◌≢◌, ℕ, zero, suc, ◌+◌, ◌<◌, ◌≤◌, List, [], ◌∷◌, ◌++◌, Bool, true, false, length, get_or, set, refl, sym, ap, ◌∙◌, subst, ⊎_elim, arith, append_assoc, length-set, get_or-set_other, get_or-set_same, AtomicStep, MarkSwap, LinkClear, TailSwap, LinkWrite, Role, Idle, Won, Cleared, Swapped, View, owed_by, total, outside_by, empty_words, link, mark, tail, tail_at, is_unmark, unmarks, wins, next_role, put_by_role, step_of_role, word_of_role, first_poller, HoldsRow, Me, TableId, at_set, at_snoc, set-get_or, some, some-injective, some-ne-none, get_elem?, Splits, ListKey, all_wakes, entry_before, first_view, full_words, steps_at_first, wake_in_order, wakes_in_order, words_at_first, words_in_order, KeepsPoller, KeepsWaker, waker_with_steps_of, without_steps}
 use Rattle.futures_buffered_table.proofs.EffectLemmas.{IsPolls, wake_keeps}
 use Rattle.futures_buffered_table.proofs.RowLemmas.{total-append, total_set}
 use Rattle.futures_buffered_table.proofs.RowInvariantLemmas.{SeatFits}

@@ -1,9 +1,6 @@
 -- Wake seats that go into the poll seat, one by one, and the end of a list.
-use Rattle.std.proofs.Common.{◌≡◌, ℕ, ◌+◌, ◌≤◌, List, [], ◌∷◌, ◌++◌, get_or, nat_eq, true, sym, ap, ◌∙◌, subst, arith, append-nil, append_assoc, ◌<◌}
+use Rattle.futures_buffered_table.proofs.Common.{◌≡◌, ℕ, ◌+◌, ◌≤◌, List, [], ◌∷◌, ◌++◌, get_or, nat_eq, true, sym, ap, ◌∙◌, subst, arith, append-nil, append_assoc, ◌<◌, AtomicStep, Phase, Polls, View, FitsRole, mark, is_win, unmarks, wins, HoldsRow, Whereabouts, Waker, some, some-injective, get_elem?, Final, Seen, steps_of}
 use mathlib.Core.Bool.{not}
-use Rattle.futures_buffered_table.proofs.Common.{AtomicStep, Phase, Polls, View, FitsRole, mark, is_win, unmarks, wins, HoldsRow, Whereabouts, Waker, some, some-injective, get_elem?}
-use Rattle.atomic_table.specs.Table.{Final, Seen}
-use Rattle.futures_buffered_table.specs.Closing.{steps_of}
 use Rattle.futures_buffered_table.proofs.ListLemmas.{elem_at, place_low}
 use Rattle.futures_buffered_table.proofs.RowLemmas.{total-append, total_at, total_one}
 use Rattle.futures_buffered_table.proofs.WhereaboutsLemmas.{whereabouts}

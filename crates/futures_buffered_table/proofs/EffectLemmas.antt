@@ -1,10 +1,7 @@
 -- The step of each role stays in range, and keeps the row (`KeepsRow`).
-use Rattle.std.proofs.Common.{rules, false, ◌≡◌, ◌≢◌, ℕ, zero, suc, ◌+◌, ◌<◌, ◌≤◌, List, [], ◌∷◌, set, get_or, refl, sym, ap, ◌∙◌, ⊎_elim, arith, ◌++◌, subst, append-nil, ◌⊎◌, inl, inr}
-use Rattle.std.specs.Prelude.{if◌then◌else◌, ◌==◌}
-use Rattle.futures_buffered_table.proofs.Common.{AtomicStep, MarkSwap, LinkClear, TailSwap, LinkWrite, LinkRead, TailRead, Unmark, Phase, Start, AtStub, Moved, NoNext, Last, StubCleared, StubPut, StubLinked, InHand, Role, Idle, Won, Cleared, Swapped, Polls, View, next, owed, owed_by, same, times, FitsPhase, FitsRole, KeepsRow, outside, outside_by, link, mark, tail, tail_at, is_unmark, InRange, next_role, put_by_role, step_of_role, word_of_role, set-get_or, some, some-injective, get_elem?}
+use Rattle.futures_buffered_table.proofs.Common.{rules, false, ◌≡◌, ◌≢◌, ℕ, zero, suc, ◌+◌, ◌<◌, ◌≤◌, List, [], ◌∷◌, set, get_or, refl, sym, ap, ◌∙◌, ⊎_elim, arith, ◌++◌, subst, append-nil, ◌⊎◌, inl, inr, if◌then◌else◌, ◌==◌, AtomicStep, MarkSwap, LinkClear, TailSwap, LinkWrite, LinkRead, TailRead, Unmark, Phase, Start, AtStub, Moved, NoNext, Last, StubCleared, StubPut, StubLinked, InHand, Role, Idle, Won, Cleared, Swapped, Polls, View, next, owed, owed_by, same, times, FitsPhase, FitsRole, KeepsRow, outside, outside_by, link, mark, tail, tail_at, is_unmark, InRange, next_role, put_by_role, step_of_role, word_of_role, set-get_or, some, some-injective, get_elem?, after_first_read, after_slot_read}
 use Rattle.std.proofs.Props.{props}
 use Rattle.std.proofs.lemmas.Bool.{eqb-true, eqb-false}
-use Rattle.futures_buffered_table.specs.Effect.{after_first_read, after_slot_read}
 use Rattle.futures_buffered_table.proofs.RowLemmas.{Flows, alone, not_last, row_end, row_goes_on, row_slots, same_else, slots_put, slots_put_stub, slots_slot, slots_stub, total_none, total_some}
 use Rattle.futures_buffered_table.proofs.RowInvariantLemmas.{Turns, clears, follows, goes_on, head_low, here, links_up, no, only, puts_in, quiet, takes_stub, unmarks_slot, wins_mark}
 use Rattle.futures_buffered_table.proofs.ListLemmas.{by_test}

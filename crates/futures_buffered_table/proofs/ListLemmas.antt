@@ -1,9 +1,5 @@
 -- Lists, read by place, and a choice by a test.
-use Rattle.std.proofs.Common.{◌≡◌, ◌⊎◌, ℕ, zero, suc, ◌+◌, ◌<◌, List, [], ◌∷◌, ◌++◌, length, get_or, replicate, Bool, true, false, refl, sym, ap, inl, inr, ⊎_elim, arith}
-use Rattle.std.specs.Prelude.{if◌then◌else◌}
-use Rattle.futures_buffered_table.proofs.Common.{at_last, get_or_default, length-replicate, some, some-injective, some-ne-none, get_elem?}
-use Rattle.std.proofs.lemmas.List.{length-append}
-use Rattle.atomic_table.proofs.Lists.{at_index}
+use Rattle.futures_buffered_table.proofs.Common.{◌≡◌, ◌⊎◌, ℕ, zero, suc, ◌+◌, ◌<◌, List, [], ◌∷◌, ◌++◌, length, get_or, replicate, Bool, true, false, refl, sym, ap, inl, inr, ⊎_elim, arith, if◌then◌else◌, at_last, get_or_default, length-replicate, some, some-injective, some-ne-none, get_elem?, length-append, at_index}
 
 pub elem_at : {X : Type 0} (xs : List X) (k : ℕ) (d : X) → k < length xs → get_elem? xs k ≡ some (get_or xs k d)
 elem_at xs k d lt = at_index xs k (get_or xs k d) lt (get_or_default xs k d (get_or xs k d) lt)

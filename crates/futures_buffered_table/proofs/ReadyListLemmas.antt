@@ -1,10 +1,6 @@
 -- A seat of a list, and the steps that it makes.
-use Rattle.std.proofs.Common.{◌≡◌, ℕ, ◌+◌, ◌<◌, ◌≤◌, List, ◌++◌, sym, ap, ◌∙◌, arith, append_assoc, inl, inr, refl}
-use mathlib.Core.Option.{none}
-use Rattle.futures_buffered_table.proofs.Common.{AtomicStep, Moved, StubLinked, Role, Polls, View, next_view, put_by_role, word_of_role, HoldsRow, MayFind, PlaysRole, AddsSteps, IsInRole, ListIdentity, Allows, Seat, TableId}
-use Rattle.atomic_table.specs.Table.{step as table_step}
+use Rattle.futures_buffered_table.proofs.Common.{◌≡◌, ℕ, ◌+◌, ◌<◌, ◌≤◌, List, ◌++◌, sym, ap, ◌∙◌, arith, append_assoc, inl, inr, refl, none, AtomicStep, Moved, StubLinked, Role, Polls, View, next_view, put_by_role, word_of_role, HoldsRow, MayFind, PlaysRole, AddsSteps, IsInRole, ListIdentity, Allows, Seat, TableId, table_step, KeepsList, KeepsSeat}
 use Rattle.futures_buffered_table.specs.Taking.{ReadsSlot}
-use Rattle.futures_buffered_table.specs.ReadyListInvariant.{KeepsList, KeepsSeat}
 use Rattle.futures_buffered_table.proofs.RuleLemmas.{SlotHandle, seated, is_seated, allows}
 
 module _ (table : TableId) (key n : ℕ) (L : KeepsList table key n) (seen : ListIdentity)

@@ -1,6 +1,6 @@
 -- Each kind of step keeps the row (`KeepsRow`).
-use Rattle.std.proofs.Common.{◌≡◌, ◌≢◌, ℕ, suc, ◌+◌, ◌<◌, ◌≤◌, List, [], ◌∷◌, length, set, get_or, refl, sym, ap, ◌∙◌, ⊎_elim, arith, ◌⊎◌, ◌++◌, subst, length-set, get_or-set_other, get_or-set_same, length-append}
-use Rattle.futures_buffered_table.proofs.Common.{AtomicStep, Phase, StubCleared, StubPut, Role, Cleared, Swapped, Polls, View, IsLinked, last_entry, next, owed, owed_by, same, times, total, FitsPhase, FitsRole, KeepsRow, outside, outside_by, empty_words, link, mark, tail, tail_at, is_unmark, is_win, unmarks, wins, first_poller, first_views, new_waker_beside, at_set, some, get_elem?}
+use Rattle.futures_buffered_table.proofs.Common.{◌≡◌, ◌≢◌, ℕ, suc, ◌+◌, ◌<◌, ◌≤◌, List, [], ◌∷◌, length, set, get_or, refl, sym, ap, ◌∙◌, ⊎_elim, arith, ◌⊎◌, ◌++◌, subst, length-set, get_or-set_other, get_or-set_same, AtomicStep, Phase, StubCleared, StubPut, Role, Cleared, Swapped, Polls, View, IsLinked, last_entry, next, owed, owed_by, same, times, total, FitsPhase, FitsRole, KeepsRow, outside, outside_by, empty_words, link, mark, tail, tail_at, is_unmark, is_win, unmarks, wins, first_poller, first_views, new_waker_beside, at_set, some, get_elem?}
+use Rattle.std.proofs.Common.{length-append}
 use Rattle.futures_buffered_table.proofs.RowLemmas.{last_in, last_snoc, next_absent, next_kept, next_last, next_later, next_put, next_stays, same_cases, same_else, same_here, times_snoc, total-append, total_at, total_set, total_none}
 use Rattle.futures_buffered_table.proofs.ViewLemmas.{each_first}
 use Rattle.futures_buffered_table.proofs.WordsLemmas.{empty_word, empty_tail, empty_wide}

@@ -1,8 +1,5 @@
 -- The row: sums over lists, what follows an entry, the last entry, and the slots that go in and out.
-use Rattle.std.proofs.Common.{◌≡◌, ◌≢◌, ◌⊎◌, ℕ, zero, suc, ◌+◌, ◌<◌, ◌≤◌, List, [], ◌∷◌, ◌++◌, length, set, refl, sym, ap, arith, ⊎_elim, ◌∙◌, ltb}
-use Rattle.futures_buffered_table.proofs.Common.{InHand, Role, Cleared, Polls, last_entry, next, same, times, total, some, some-injective, some-ne-none, get_elem?}
-use Rattle.std.proofs.lemmas.Bool.Decides.{nat_tests}
-use Rattle.std.specs.Prelude.{if◌then◌else◌}
+use Rattle.futures_buffered_table.proofs.Common.{◌≡◌, ◌≢◌, ◌⊎◌, ℕ, zero, suc, ◌+◌, ◌<◌, ◌≤◌, List, [], ◌∷◌, ◌++◌, length, set, refl, sym, ap, arith, ⊎_elim, ◌∙◌, ltb, InHand, Role, Cleared, Polls, last_entry, next, same, times, total, some, some-injective, some-ne-none, get_elem?, nat_tests, if◌then◌else◌}
 
 pub total-append : {X : Type 0} (f : X → ℕ) (xs ys : List X) → total f (xs ++ ys) ≡ total f xs + total f ys
 total-append f [] ys = omega arith

@@ -1,13 +1,6 @@
 -- The rule of the table: it holds of an empty list, tells what a step finds, and is kept by steps, splits and joins.
-use Rattle.std.proofs.Common.{◌≡◌, ◌≢◌, ℕ, zero, suc, ◌+◌, ◌≤◌, List, [], ◌∷◌, ◌++◌, refl, sym, ap, subst, ⊎_elim, arith, ◌<◌, get_or, set, length}
-use Rattle.std.proofs.Math.Seq.{set-append_seam}
-use Rattle.futures_buffered_table.proofs.Common.{AtomicStep, Phase, Start, Moved, StubCleared, StubLinked, Role, Idle, Cleared, Polls, View, owed, owed_by, times, total, FitsRole, KeepsRow, outside, outside_by, empty_words, link, is_unmark, is_win, unmarks, wins, next_view, put_by_role, word_of_role, first_poller, new_waker_beside, spent_view, HoldsRow, MayFind, PlaysRole, Allows, Me, State, at_last, at_set, at_snoc, some, get_elem?}
-use mathlib.Core.Option.{none}
-use Rattle.atomic_table.specs.Table.{step as table_step, keeps, Arrives, Splits, Joins}
-use Rattle.atomic_table.proofs.Lists.{set_again}
-use Rattle.futures_buffered_table.specs.View.{with_steps_of}
+use Rattle.futures_buffered_table.proofs.Common.{◌≡◌, ◌≢◌, ℕ, zero, suc, ◌+◌, ◌≤◌, List, [], ◌∷◌, ◌++◌, refl, sym, ap, subst, ⊎_elim, arith, ◌<◌, get_or, set, length, set-append_seam, AtomicStep, Phase, Start, Moved, StubCleared, StubLinked, Role, Idle, Cleared, Polls, View, owed, owed_by, times, total, FitsRole, KeepsRow, outside, outside_by, empty_words, link, is_unmark, is_win, unmarks, wins, next_view, put_by_role, word_of_role, first_poller, new_waker_beside, spent_view, HoldsRow, MayFind, PlaysRole, Allows, Me, State, at_last, at_set, at_snoc, some, get_elem?, none, table_step, keeps, Arrives, Splits, Joins, set_again, with_steps_of, PlaysNewWaker}
 use Rattle.futures_buffered_table.proofs.RowLemmas.{row_goes_on, same_cases, same_here, total-append, total_set}
-use Rattle.futures_buffered_table.specs.Rule.{PlaysNewWaker}
 use Rattle.futures_buffered_table.proofs.EffectLemmas.{IsPolls, poll_keeps, wake_keeps}
 use Rattle.futures_buffered_table.proofs.RowInvariantLemmas.{SeatFits, follows, keeps_first, tail_low}
 

@@ -1,9 +1,6 @@
 -- A legal schedule keeps the laws.
-use Rattle.std.proofs.Common.{◌≡◌, ◌≢◌, ◌⊎◌, ℕ, zero, suc, ◌+◌, ◌<◌, List, [], ◌∷◌, ◌++◌, map, set, get_or, refl, sym, ap, ◌∙◌, subst, inl, inr, ⊎_elim, arith, append-nil, append_assoc}
-use Rattle.std.proofs.lemmas.Bool.Decides.{nat_tests}
-use Rattle.futures_buffered_table.proofs.Common.{Empty, Pause, AtomicStep, Phase, Start, AtStub, Moved, NoNext, StubLinked, Role, Idle, Won, Cleared, Swapped, Polls, View, Step, Mark, Go, Poll, StepReply, WAKE_SEATS, owed_by, FitsRole, KeepsRow, link, tail, next_role, next_view, put_by_role, reply_of_role, word_of_role, role_of, spent_view, CanStep, seat_of, slot_of, Legal, Moment, after_step, at_start, found_at, replies_of, view_at, at_set, set_else, set_here, get_or-map, some, some-injective, get_elem?}
+use Rattle.futures_buffered_table.proofs.Common.{◌≡◌, ◌≢◌, ◌⊎◌, ℕ, zero, suc, ◌+◌, ◌<◌, List, [], ◌∷◌, ◌++◌, map, set, get_or, refl, sym, ap, ◌∙◌, subst, inl, inr, ⊎_elim, arith, append-nil, append_assoc, nat_tests, Empty, Pause, AtomicStep, Phase, Start, AtStub, Moved, NoNext, StubLinked, Role, Idle, Won, Cleared, Swapped, Polls, View, Step, Mark, Go, Poll, StepReply, WAKE_SEATS, owed_by, FitsRole, KeepsRow, link, tail, next_role, next_view, put_by_role, reply_of_role, word_of_role, role_of, spent_view, CanStep, seat_of, slot_of, Legal, Moment, after_step, at_start, found_at, replies_of, view_at, at_set, set_else, set_here, get_or-map, some, some-injective, get_elem?, AfterEach, AnswersInOrder, EmptyIsTrue, IsUnderWay, PauseHasCause, Made, Wake, WakerStands, WakerStood, answered, put_in, put_in_by, slot_named, wake_after, wake_of}
 use Rattle.futures_buffered_table.specs.declared.step.StepReply.TheVariants.{Taken}
-use Rattle.futures_buffered_table.specs.ScheduleLaw.{AfterEach, AnswersInOrder, EmptyIsTrue, IsUnderWay, PauseHasCause, Made, Wake, WakerStands, WakerStood, answered, put_in, put_in_by, slot_named, wake_after, wake_of}
 use Rattle.futures_buffered_table.proofs.ScheduleLemmas.{IsReachable, pending, reachable_start, step_reaches}
 use Rattle.futures_buffered_table.proofs.EffectLemmas.{IsPolls, SomeWakerStands, row_ends_or_waker_stands, wakes_only}
 use Rattle.futures_buffered_table.proofs.RowLemmas.{alone, in_hand, put_by, row_slots, slots_stub}

@@ -1,7 +1,5 @@
 -- Over a legal schedule the row keeps itself, and the slots come out in the order in which they were put in.
-use Rattle.std.proofs.Common.{◌≡◌, ℕ, ◌<◌, List, [], ◌∷◌, ◌++◌, length, map, set, get_or, refl, sym, ap, ◌∙◌, subst, arith, append_assoc, length-set, ◌+◌}
-use Rattle.futures_buffered_table.proofs.Common.{is_win, wins, AtomicStep, Phase, Start, Role, Idle, Polls, View, Step, Mark, Go, Poll, StepReply, WAKE_SEATS, KeepsRow, next_role, next_view, put_by_role, reply_of_role, step_of_role, word_of_role, first_poller, new_waker_beside, role_of, spent_view, CanStep, seat_of, slot_of, Legal, Moment, after_step, at_start, found_at, replies_of, run, view_at, set_else, set_here, get_or-map, some, some-injective, get_elem?}
-use Rattle.futures_buffered_table.specs.Schedule.{word_of}
+use Rattle.futures_buffered_table.proofs.Common.{◌≡◌, ℕ, ◌<◌, List, [], ◌∷◌, ◌++◌, length, map, set, get_or, refl, sym, ap, ◌∙◌, subst, arith, append_assoc, length-set, ◌+◌, is_win, wins, AtomicStep, Phase, Start, Role, Idle, Polls, View, Step, Mark, Go, Poll, StepReply, WAKE_SEATS, KeepsRow, next_role, next_view, put_by_role, reply_of_role, step_of_role, word_of_role, first_poller, new_waker_beside, role_of, spent_view, CanStep, seat_of, slot_of, Legal, Moment, after_step, at_start, found_at, replies_of, run, view_at, set_else, set_here, get_or-map, some, some-injective, get_elem?, word_of}
 use Rattle.futures_buffered_table.proofs.RowLemmas.{in_hand, put_by, row_slots, total-append}
 use Rattle.futures_buffered_table.proofs.ViewLemmas.{stubs_set, each_first}
 use Rattle.futures_buffered_table.proofs.EffectLemmas.{IsPolls, poll_keeps, role_polls, still_polls, wake_keeps, wakes_only}

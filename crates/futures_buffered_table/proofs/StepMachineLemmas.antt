@@ -1,11 +1,7 @@
 -- One step of the machine, by what its code reads and writes, and where it leads.
-use Rattle.std.proofs.Common.{◌≡◌, ℕ, ◌<◌, ◌≤◌, List, [], ◌∷◌, ◌++◌, length, map, set, get_or, sym, ap, ◌∙◌, subst, arith, ◌+◌, ◌^◌, length-set}
-use Rattle.futures_buffered_table.proofs.Common.{Role, Idle, View, Step, StepReply, WAKE_SEATS, KeepsRow, InRange, next_role, next_view, put_by_role, reply_of_role, word_of_role, role_of, spent_view, CanStep, seat_of, slot_of, Legal, Moment, after_step, at_start, found_at, replies_of, run, view_at, get_or_default, get_or-map, some, get_elem?}
-use Rattle.std.proofs.lemmas.List.{map-set}
+use Rattle.futures_buffered_table.proofs.Common.{◌≡◌, ℕ, ◌<◌, ◌≤◌, List, [], ◌∷◌, ◌++◌, length, map, set, get_or, sym, ap, ◌∙◌, subst, arith, ◌+◌, ◌^◌, length-set, Role, Idle, View, Step, StepReply, WAKE_SEATS, KeepsRow, InRange, next_role, next_view, put_by_role, reply_of_role, word_of_role, role_of, spent_view, CanStep, seat_of, slot_of, Legal, Moment, after_step, at_start, found_at, replies_of, run, view_at, get_or_default, get_or-map, some, get_elem?, map-set, AreThoseOf, CanMake, IsLedTo, Leads, LeadsOn, Machine, MakesStep, replies_to, PlacesSlots, role_at}
 use Rattle.std.proofs.Math.Logic.{∥∥₁_elim, ∥∥₁_prop}
 use Rattle.std.proofs.lemmas.Grind.{get_or_default_zero}
-use Rattle.futures_buffered_table.specs.StepMachine.{AreThoseOf, CanMake, IsLedTo, Leads, LeadsOn, Machine, MakesStep, replies_to, PlacesSlots}
-use Rattle.futures_buffered_table.specs.Step.{role_at}
 use Rattle.futures_buffered_table.proofs.ScheduleLemmas.{legal_more, reachable_at, replies_more, run_more}
 use Rattle.futures_buffered_table.proofs.RowInvariantLemmas.{head_low}
 use Rattle.futures_buffered_table.proofs.TallyLemmas.{tallied_at}

@@ -1,7 +1,5 @@
 -- No mark is lost over a legal schedule: what the wake seats won is what the poll seat unmarked, and what is marked.
-use Rattle.std.proofs.Common.{◌≡◌, ℕ, zero, suc, ◌+◌, List, [], ◌∷◌, length, get_or, sym, ap, ◌∙◌, subst, arith, take}
-use Rattle.futures_buffered_table.proofs.Common.{View, Step, WAKE_SEATS, total, KeepsRow, unmarks, wins, spent_view, Legal, Moment, at_start, run, some, some-injective, get_elem?}
-use Rattle.futures_buffered_table.specs.Tally.{LosesNoMark}
+use Rattle.futures_buffered_table.proofs.Common.{◌≡◌, ℕ, zero, suc, ◌+◌, List, [], ◌∷◌, length, get_or, sym, ap, ◌∙◌, subst, arith, take, View, Step, WAKE_SEATS, total, KeepsRow, unmarks, wins, spent_view, Legal, Moment, at_start, run, some, some-injective, get_elem?, LosesNoMark}
 use Rattle.futures_buffered_table.proofs.RowLemmas.{total_one}
 use Rattle.futures_buffered_table.proofs.ScheduleLemmas.{IsReachable}
 use Rattle.futures_buffered_table.proofs.ListLemmas.{elem_at}

@@ -1,6 +1,5 @@
 -- Views of seats, by their places in a list.
-use Rattle.std.proofs.Common.{arith, ◌≡◌, ℕ, ◌<◌, List, set}
-use Rattle.futures_buffered_table.proofs.Common.{View, first_poller, first_views, new_waker_beside, at_set, some, get_elem?}
+use Rattle.futures_buffered_table.proofs.Common.{arith, ◌≡◌, ℕ, ◌<◌, List, set, View, first_poller, first_views, new_waker_beside, at_set, some, get_elem?}
 use Rattle.futures_buffered_table.proofs.ListLemmas.{earlier_or_last}
 
 pub stubs_set : (n : ℕ) (views : List View) (seat : ℕ) (w : View) → ((j : ℕ) (v : View) → get_elem? views j ≡ some v → v.stub ≡ n) →

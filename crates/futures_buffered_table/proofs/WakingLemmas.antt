@@ -1,9 +1,7 @@
 -- A wake seat after a wake.
-use Rattle.std.proofs.Common.{◌≡◌, ℕ, List, [], ◌∷◌, refl, ap, ◌∙◌, subst, arith, ◌≢◌}
-use Rattle.futures_buffered_table.proofs.Common.{Woke, Fresh, AtomicStep, MarkSwap, LinkClear, TailSwap, LinkWrite, Idle, View, is_unmark, unmarks, next_role, AddsSteps, Seat}
+use Rattle.futures_buffered_table.proofs.Common.{◌≡◌, ℕ, List, [], ◌∷◌, refl, ap, ◌∙◌, subst, arith, ◌≢◌, Woke, Fresh, AtomicStep, MarkSwap, LinkClear, TailSwap, LinkWrite, Idle, View, is_unmark, unmarks, next_role, AddsSteps, Seat, KeepsWaker, KeepsSeat}
 use Rattle.futures_buffered_table.specs.Waking.{IsWake}
 use Rattle.futures_buffered_table.proofs.ReadyListLemmas.{adds_more}
-use Rattle.futures_buffered_table.specs.ReadyListInvariant.{KeepsWaker, KeepsSeat}
 use Rattle.futures_buffered_table.proofs.RowLemmas.{total-append}
 
 -- a wake unmarks nothing

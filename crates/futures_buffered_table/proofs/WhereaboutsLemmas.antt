@@ -1,7 +1,5 @@
 -- Where each slot is, by the invariant of the row.
-use Rattle.std.proofs.Common.{◌≡◌, ℕ, ◌+◌, ◌<◌, List, [], ◌∷◌, refl, arith}
-use Rattle.futures_buffered_table.proofs.Common.{Role, View, FitsRole, KeepsRow, outside, outside_by, Whereabouts}
-use Rattle.futures_buffered_table.specs.Whereabouts.{AgreesWith, takers, takes_by, wakers, wakes_by}
+use Rattle.futures_buffered_table.proofs.Common.{◌≡◌, ℕ, ◌+◌, ◌<◌, List, [], ◌∷◌, refl, arith, Role, View, FitsRole, KeepsRow, outside, outside_by, Whereabouts, AgreesWith, takers, takes_by, wakers, wakes_by}
 
 out_is : (n e : ℕ) (role : Role) → e < n → outside_by n e role ≡ wakes_by e role + takes_by e role
 out_is n e role lt = grind arith

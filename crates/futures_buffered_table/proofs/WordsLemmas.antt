@@ -1,8 +1,5 @@
 -- The words of an empty list, and the tail after a write to another word.
-use Rattle.std.proofs.Common.{◌≡◌, ◌≢◌, ℕ, ◌+◌, ◌<◌, List, [], length, set, get_or, replicate, sym, subst, arith, get_or-set_other}
-use Rattle.std.proofs.Math.Seq.{get_or-append_seam}
-use Rattle.std.proofs.lemmas.List.{get_or_append_left, get_or-replicate, length-replicate}
-use Rattle.futures_buffered_table.specs.Words.{tail_at, empty_words, tail}
+use Rattle.futures_buffered_table.proofs.Common.{◌≡◌, ◌≢◌, ℕ, ◌+◌, ◌<◌, List, [], length, set, get_or, replicate, sym, subst, arith, get_or-set_other, get_or-append_seam, get_or_append_left, get_or-replicate, length-replicate, tail_at, empty_words, tail}
 use Rattle.futures_buffered_table.proofs.ListLemmas.{length_and_last}
 
 pub empty_word : (n i : ℕ) → i < tail_at n → get_or (empty_words n) i 0 ≡ 0

@@ -1,4 +1,4 @@
-// Additions whose refusal `?` takes: what was refused is dropped, and of the rest nothing has changed.
+// Tests of a refused `add`: what was refused is dropped, and of the rest nothing has changed.
 use futures_buffered::{FuturesOrdered, FuturesUnordered, MergeUnbounded};
 use std::alloc::Global;
 use std::test::Fail;

@@ -1,7 +1,6 @@
 -- What is drawn from the iterator of a source is drawn from that source.
-use Rattle.std.proofs.Common.{◌≡◌, List, Some, subst}
+use Rattle.futures_buffered_unordered.proofs.Common.{◌≡◌, List, Some, subst, Items, Draws, DrawsAndOne}
 use Rattle.std.specs.Iterator.{Drains, YieldsThen}
-use Rattle.futures_buffered_core.specs.Drawn.{Items, Draws, DrawsAndOne}
 
 module _ {U F I : Type 0} (from : Items U F I) (it : I) (begins : from.by.into_iter_gives from.source it) (items : List F) where
   pub draws_of : (at : I) → at ≡ it → Drains from.gives.next_gives at items → Draws from items

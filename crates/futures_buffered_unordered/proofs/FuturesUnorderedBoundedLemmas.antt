@@ -1,15 +1,5 @@
 -- What a poll of a bounded set makes of what the set holds and may give.
-use Rattle.std.proofs.Common.{◌≡◌, ◌+◌, ◌<◌, [], Option, Some, None, IfSome, sym, ap, subst, arith, ◌∙◌}
-use Rattle.futures.specs.declared.task.context.Context.{Context}
-use Rattle.futures.specs.declared.task.Poll.{Poll}
-use Rattle.futures.specs.declared.task.Poll.TheVariants.{Ready, Pending}
-use Rattle.futures.specs.Poll.{IfReady, OnPending}
-use Rattle.futures.specs.Runs.{After, Within}
-use Rattle.futures_buffered_core.specs.SlotMap.{Slots}
-use Rattle.futures_buffered_unordered.specs.Held.{AnyMayGive, ComesFrom}
-use Rattle.futures_buffered_unordered.specs.Groups.{outputs_in}
-use Rattle.futures_buffered_unordered.specs.FuturesUnorderedBounded.{Bounded, held_in}
-use Rattle.futures_buffered_unordered.specs.PollsBounded.{PollOneOf, PollsBounded, ReadySourceOf}
+use Rattle.futures_buffered_unordered.proofs.Common.{◌≡◌, ◌+◌, ◌<◌, [], Option, Some, None, IfSome, sym, ap, subst, arith, ◌∙◌, Context, Poll, Ready, Pending, IfReady, OnPending, After, Within, Slots, AnyMayGive, ComesFrom, outputs_in, Bounded, held_in, PollOneOf, PollsBounded, ReadySourceOf}
 use Rattle.futures_buffered_unordered.proofs.HeldGivesLemmas.{Gathers-Within, Gathers-After, gives_passed, gives_output, gives_others}
 
 module _ {R F W A S : Type 0} (rule : PollOneOf R F W A) (source : ReadySourceOf S W) (old new : Bounded F S) where

@@ -1,23 +1,6 @@
 -- What a poll of groups keeps of their invariant.
-use Rattle.std.proofs.Common.{◌≡◌, ◌≢◌, ℕ, zero, suc, ◌+◌, ◌-◌, ◌<◌, ◌≤◌, false, List, [], ◌∷◌, ◌++◌, length, take, drop, set, get_or, Option, IfNone, is_some, refl, sym, ap, subst, arith, length-set, ◌∙◌}
-use Rattle.std.specs.List.{All, FoldsTo}
-use Rattle.std.proofs.lemmas.Bool.Decides.{nat_tests}
-use Rattle.std.proofs.lemmas.List.{get_or-set_same, get_or-set_other, get_or-take, get_or-drop, get_or_append_left, get_or-append_right, length-append, length-take-le, length-drop}
-use Rattle.std.proofs.lemmas.List.Elements.{All-set}
-use Rattle.std.proofs.lemmas.List.Sums.{sum_by-set, sum_by-append, sum_by_more, sum_by-take-drop, get_or-le-sum_by}
-use Rattle.futures.specs.Poll.{IfReady, OnPending}
-use Rattle.futures.specs.Task.{Covers, Keeps, Lasting}
-use Rattle.futures.specs.declared.task.context.Context.{Context}
-use Rattle.futures.specs.declared.task.Poll.{Poll}
-use Rattle.futures.specs.declared.task.Poll.TheVariants.{Ready, Pending}
-use Rattle.futures_buffered_core.specs.ReadySource.{WaitsAlike}
-use Rattle.futures_buffered_table.specs.declared.answer.Taken.{Taken}
-use Rattle.futures_buffered_unordered.specs.FuturesUnorderedBounded.{Bounded, held_in}
-use Rattle.futures_buffered_unordered.specs.Groups.{Groups, next_place}
-use Rattle.futures_buffered_unordered.specs.PollsBounded.{PollOneOf, ReadySourceOf, RegistersAndTakes}
+use Rattle.futures_buffered_unordered.proofs.Common.{◌≡◌, ◌≢◌, ℕ, zero, suc, ◌+◌, ◌-◌, ◌<◌, ◌≤◌, false, List, [], ◌∷◌, ◌++◌, length, take, drop, set, get_or, Option, IfNone, is_some, refl, sym, ap, subst, arith, length-set, ◌∙◌, All, FoldsTo, nat_tests, get_or-set_same, get_or-set_other, get_or-take, get_or-drop, get_or_append_left, get_or-append_right, length-append, length-take-le, length-drop, All-set, sum_by-set, sum_by-append, sum_by_more, sum_by-take-drop, get_or-le-sum_by, IfReady, OnPending, Covers, Keeps, Lasting, Context, Poll, Ready, Pending, WaitsAlike, Taken, Bounded, held_in, Groups, next_place, PollOneOf, ReadySourceOf, RegistersAndTakes, EachCovered, IsGroup, AllWaitAlike, KeepsGroups, SameKind, KeepsGroup}
 use Rattle.futures_buffered_unordered.proofs.GroupsStepLemmas.{All-removed, from_none}
-use Rattle.futures_buffered_unordered.specs.FuturesUnordered.{EachCovered}
-use Rattle.futures_buffered_unordered.specs.FuturesUnorderedInvariant.{IsGroup, AllWaitAlike, KeepsGroups, SameKind, KeepsGroup}
 
 -- what stands at a place of a list does not depend on what is read past its end
 pub same_or : {X : Type 0} (xs : List X) (k : ℕ) (d e : X) → k < length xs → get_or xs k d ≡ get_or xs k e

@@ -1,26 +1,8 @@
 -- What a push makes of groups.
-use Rattle.std.proofs.Common.{◌≡◌, ℕ, zero, suc, ◌+◌, ◌-◌, ◌*◌, ◌<◌, ◌≤◌, List, [], ◌∷◌, ◌++◌, length, take, drop, set, get_or, Option, None, is_some, cond, ◌⊎◌, refl, sym, ap, subst, inl, inr, arith, length-set, ◌∙◌}
-use Rattle.std.specs.List.{All}
-use Rattle.std.proofs.lemmas.List.{get_or-set_other, get_or_append_left, get_or_push, length_push, drop_all, length-replicate}
-use Rattle.std.proofs.lemmas.List.Elements.{All-push, All-tail}
+use Rattle.futures_buffered_unordered.proofs.Common.{◌≡◌, ℕ, zero, suc, ◌+◌, ◌-◌, ◌*◌, ◌<◌, ◌≤◌, List, [], ◌∷◌, ◌++◌, length, take, drop, set, get_or, Option, None, is_some, cond, ◌⊎◌, refl, sym, ap, subst, inl, inr, arith, length-set, ◌∙◌, All, get_or-set_other, get_or_append_left, get_or_push, length_push, drop_all, length-replicate, All-push, All-tail, sum_by-set, sum_by_push, OnPending, Covers, Hears, Context, Poll, Ready, Pending, WaitsAlike, held_count, slot_count, MAX_CAPACITY, Woke, Bounded, Pushes, IsNewSet, held_in, Groups, MAX_HELD, Growing, GrowingPushes, IsNewGrowing, no_groups, held_in_all, spare_places, next_capacity, AnyNeeds, EachCovered, IsGroup, KeepsGroups, SameKind, AddsGroup}
 use Rattle.std.proofs.lemmas.List.Folds.{sum_by-replicate}
-use Rattle.std.proofs.lemmas.List.Sums.{sum_by-set, sum_by_push}
-use Rattle.futures.specs.Poll.{OnPending}
-use Rattle.futures.specs.Task.{Covers, Hears}
-use Rattle.futures.specs.declared.task.context.Context.{Context}
-use Rattle.futures.specs.declared.task.Poll.{Poll}
-use Rattle.futures.specs.declared.task.Poll.TheVariants.{Ready, Pending}
-use Rattle.futures_buffered_core.specs.ReadySource.{WaitsAlike}
-use Rattle.futures_buffered_core.specs.SlotMap.{held_count, slot_count}
-use Rattle.futures_buffered_table.specs.declared.answer.TheConstants.{MAX_CAPACITY}
-use Rattle.futures_buffered_table.specs.declared.answer.Woke.{Woke}
-use Rattle.futures_buffered_unordered.specs.FuturesUnorderedBounded.{Bounded, Pushes, IsNewSet, held_in}
-use Rattle.futures_buffered_unordered.specs.Groups.{Groups}
 use Rattle.futures_buffered_unordered.proofs.GroupsLemmas.{same_parts}
 use Rattle.futures_buffered_unordered.proofs.GroupsStepLemmas.{split_at, split_set}
-use Rattle.futures_buffered_unordered.specs.declared.futures_unordered.TheConstants.{MAX_HELD}
-use Rattle.futures_buffered_unordered.specs.FuturesUnordered.{Growing, GrowingPushes, IsNewGrowing, no_groups, held_in_all, spare_places, next_capacity, AnyNeeds, EachCovered}
-use Rattle.futures_buffered_unordered.specs.FuturesUnorderedInvariant.{IsGroup, KeepsGroups, SameKind, AddsGroup}
 use Rattle.futures_buffered_unordered.proofs.FuturesUnorderedInvariantLemmas.{alike_self, alike_back, each_set, alike_set}
 
 module _ {F S : Type 0} where

@@ -1,23 +1,8 @@
 -- What a set's poll keeps of each group that it asks, what may come from the set, and the set as a stream.
-use Rattle.std.proofs.Common.{◌≡◌, Bool, true, false, ◌+◌, ◌<◌, ◌↔◌, [], length, Option, Some, None, IfSome, refl, sym, subst, arith}
-use Rattle.futures.specs.Poll.{IfReady, OnPending}
-use Rattle.futures.specs.Runs.{After, Within}
-use Rattle.futures.specs.declared.task.context.Context.{Context}
-use Rattle.futures.specs.declared.task.Poll.{Poll}
-use Rattle.futures.specs.declared.task.Poll.TheVariants.{Ready, Pending}
-use Rattle.futures_buffered_core.specs.ReadySource.{WaitsAlike}
-use Rattle.futures_buffered_table.specs.declared.answer.Taken.{Taken}
-use Rattle.futures_buffered_unordered.specs.Held.{AnyMayGive}
-use Rattle.futures_buffered_unordered.specs.FuturesUnorderedBounded.{Bounded, held_in}
-use Rattle.futures_buffered_unordered.specs.Groups.{AsksInTurn, Groups, outputs_in}
+use Rattle.futures_buffered_unordered.proofs.Common.{◌≡◌, Bool, true, false, ◌+◌, ◌<◌, ◌↔◌, [], length, Option, Some, None, IfSome, refl, sym, subst, arith, IfReady, OnPending, After, Within, Covers, Context, Poll, Ready, Pending, WaitsAlike, Taken, AnyMayGive, Bounded, held_in, AsksInTurn, Groups, outputs_in, AnyNeeds, EachHeld, Growing, held_in_all, PollOneOf, PollsBounded, ReadySourceOf, unless_registered, StreamAnswers, stream_of, KeepsGroup, AnyGroupMayGive, ComesFromGroups}
 use Rattle.futures_buffered_unordered.proofs.HeldGivesLemmas.{Gathers-Within, Gathers-After}
 use Rattle.futures_buffered_unordered.proofs.FuturesUnorderedBoundedLemmas.{poll_counted, poll_pending_holds, poll_end_is_empty, poll_gave, poll_still}
-use Rattle.futures_buffered_unordered.specs.FuturesUnordered.{AnyNeeds, EachHeld, Growing, held_in_all}
-use Rattle.futures_buffered_unordered.specs.PollsBounded.{PollOneOf, PollsBounded, ReadySourceOf, unless_registered}
 use Rattle.futures_buffered_unordered.specs.PollsGrowing.{PollsGroups, PollsGrowing}
-use Rattle.futures_buffered_unordered.specs.StreamAnswers.{StreamAnswers, stream_of}
-use Rattle.futures_buffered_unordered.specs.FuturesUnorderedInvariant.{KeepsGroup}
-use Rattle.futures_buffered_unordered.specs.FuturesUnordered.{AnyGroupMayGive, ComesFromGroups}
 use Rattle.futures_buffered_unordered.proofs.FuturesUnorderedInvariantLemmas.{alike_asked, alike_self}
 use Rattle.futures_buffered_unordered.proofs.GroupsLemmas.{Weighs, turns_any, turns_output, turns_sum, turns_weigh}
 use Rattle.futures_buffered_unordered.proofs.FuturesUnorderedLemmas.{covered_of}

@@ -1,14 +1,5 @@
 -- Groups in a list, of which one after another is polled.
-use Rattle.std.proofs.Common.{◌≡◌, ◌⊎◌, ℕ, zero, suc, ◌+◌, ◌<◌, ◌≤◌, Bool, true, false, List, [], ◌∷◌, ◌++◌, length, take, drop, Option, Some, None, refl, sym, ap, subst, inl, inr, arith, append-nil, ◌∙◌}
-use Rattle.std.specs.Prelude.{⊤}
-use Rattle.std.specs.List.{sum_by}
-use Rattle.std.proofs.lemmas.List.{append_assoc, length-append, length-drop, length-take, length_push, take_at, drop_at, take-append-drop}
-use Rattle.std.proofs.lemmas.List.Sums.{sum_by-cons, sum_by-append}
-use Rattle.std.proofs.lemmas.Bool.Decides.{nat_tests}
-use Rattle.futures.specs.declared.task.context.Context.{Context}
-use Rattle.futures.specs.declared.task.Poll.{Poll}
-use Rattle.futures.specs.declared.task.Poll.TheVariants.{Ready, Pending}
-use Rattle.futures_buffered_unordered.specs.Groups.{AnyOf, AsksEach, AsksEachOnce, AsksInTurn, AsksOne, Groups, LeavesBetween, in_turn, next_place}
+use Rattle.futures_buffered_unordered.proofs.Common.{◌≡◌, ◌⊎◌, ℕ, zero, suc, ◌+◌, ◌<◌, ◌≤◌, Bool, true, false, List, [], ◌∷◌, ◌++◌, length, take, drop, Option, Some, None, refl, sym, ap, subst, inl, inr, arith, append-nil, ◌∙◌, ⊤, sum_by, append_assoc, length-append, length-drop, length-take, length_push, take_at, drop_at, take-append-drop, sum_by-cons, sum_by-append, nat_tests, Context, Poll, Ready, Pending, AnyOf, AsksEach, AsksEachOnce, AsksInTurn, AsksOne, Groups, LeavesBetween, in_turn, next_place}
 
 -- lists that are put together alike, with first parts of one length, have the same parts
 pub same_parts : {X : Type 0} (ps qs rs ts : List X) → length ps ≡ length qs → ps ++ rs ≡ qs ++ ts → (ps ≡ qs) × (rs ≡ ts)

@@ -1,12 +1,5 @@
 -- One group of a list is asked: from what the list's calls leave to what the step says, and on to the groups after it.
-use Rattle.std.proofs.Common.{◌≡◌, ◌≢◌, ℕ, suc, ◌+◌, ◌-◌, ◌<◌, Bool, cond, List, [], ◌∷◌, ◌++◌, length, take, drop, set, get_or, Option, Some, None, is_some, true, false, refl, sym, ap, subst, inl, inr, arith, ◌∙◌}
-use Rattle.std.specs.List.{All}
-use Rattle.std.proofs.lemmas.List.Elements.{All-append}
-use Rattle.std.proofs.lemmas.List.{get_or-take, get_or-drop, length-append, length-take, take-append-drop, take-set, drop-set-lt, drop_all, drop_more, set_split, length-drop, length-take-le}
-use Rattle.futures.specs.declared.task.context.Context.{Context}
-use Rattle.futures.specs.declared.task.Poll.{Poll}
-use Rattle.futures.specs.declared.task.Poll.TheVariants.{Ready, Pending}
-use Rattle.futures_buffered_unordered.specs.Groups.{AsksInTurn, AsksOne, Groups, LeavesBetween, next_place}
+use Rattle.futures_buffered_unordered.proofs.Common.{◌≡◌, ◌≢◌, ℕ, suc, ◌+◌, ◌-◌, ◌<◌, Bool, cond, List, [], ◌∷◌, ◌++◌, length, take, drop, set, get_or, Option, Some, None, is_some, true, false, refl, sym, ap, subst, inl, inr, arith, ◌∙◌, All, All-append, get_or-take, get_or-drop, length-append, length-take, take-append-drop, take-set, drop-set-lt, drop_all, drop_more, set_split, length-drop, length-take-le, Context, Poll, Ready, Pending, AsksInTurn, AsksOne, Groups, LeavesBetween, next_place}
 
 pub from_some : {A : Type 0} (o : Option A) → is_some o ≡ true → (x : A) × (o ≡ Some x)
 from_some o h = grind arith

@@ -1,15 +1,7 @@
 -- What the values in slots may still give, once some were polled.
-use Rattle.std.proofs.Common.{◌≡◌, ◌≢◌, ℕ, ◌+◌, List, [], ◌∷◌, Option, Some, None, MatchOption, refl, sym, subst, inl, inr, arith, ◌∙◌, set, length-set}
-use Rattle.std.specs.List.{FoldsTo}
-use Rattle.std.proofs.lemmas.List.{get_or-set_same, get_or-set_other, get_or_past}
-use Rattle.std.proofs.lemmas.Bool.{cases_eq}
+use Rattle.futures_buffered_unordered.proofs.Common.{◌≡◌, ◌≢◌, ℕ, ◌+◌, List, [], ◌∷◌, Option, Some, None, MatchOption, refl, sym, subst, inl, inr, arith, ◌∙◌, set, length-set, FoldsTo, get_or-set_same, get_or-set_other, get_or_past, cases_eq, Poll, Pending, After, Within, Slots, value_in, with_value, with_slot_freed, Passes, Yields, MayGive, AnyMayGive}
 use Rattle.futures.proofs.SentLemmas.{AllByRecursion_weaker}
-use Rattle.futures.specs.declared.task.Poll.{Poll}
-use Rattle.futures.specs.declared.task.Poll.TheVariants.{Pending}
-use Rattle.futures.specs.Runs.{After, Within}
 use Rattle.futures.specs.Queued.{Gathers}
-use Rattle.futures_buffered_core.specs.SlotMap.{Slots, value_in, with_value, with_slot_freed}
-use Rattle.futures_buffered_unordered.specs.Held.{Passes, Yields, MayGive, AnyMayGive}
 use Rattle.futures_buffered_unordered.proofs.HeldLemmas.{value_in-with_value}
 
 module _ {A : Type 0} {P Q : A → Type 0} (weaker : (x : A) → Q x → P x) where

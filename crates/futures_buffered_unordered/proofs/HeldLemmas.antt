@@ -1,11 +1,5 @@
 -- What holds of the values in slots, once one was put in, polled or taken out.
-use Rattle.std.proofs.Common.{◌≡◌, ◌≢◌, ℕ, zero, suc, ◌<◌, List, length, set, get_or, Option, Some, None, IfSome, IsSome, is_some, cond, refl, ap, arith, length-set, ◌∙◌}
-use Rattle.std.proofs.lemmas.List.{get_or-set_same, get_or-set_other, get_or_past}
-use Rattle.std.proofs.lemmas.List.Sums.{sum_by-set}
-use Rattle.futures.specs.declared.task.Poll.{Poll}
-use Rattle.futures.specs.declared.task.Poll.TheVariants.{Pending}
-use Rattle.futures_buffered_core.specs.SlotMap.{Slots, Inserts, value_in, held_count, no_slots, with_value}
-use Rattle.futures_buffered_unordered.specs.Held.{AllHeld, EndsWith, Passes}
+use Rattle.futures_buffered_unordered.proofs.Common.{◌≡◌, ◌≢◌, ℕ, zero, suc, ◌<◌, List, length, set, get_or, Option, Some, None, IfSome, IsSome, is_some, cond, refl, ap, arith, length-set, ◌∙◌, get_or-set_same, get_or-set_other, get_or_past, sum_by-set, Poll, Pending, Slots, Inserts, value_in, held_count, no_slots, with_value, AllHeld, EndsWith, Passes}
 
 pub passes_pending : {F A : Type 0} (polled : ℕ → F → Poll A → F → Type 0) (m : Slots F) (i : ℕ) (f left : F) → value_in m i ≡ Some f → polled i f Pending left → Passes polled m i (with_value m i left)
 passes_pending polled m i f left e h = rw e (left, h, refl)

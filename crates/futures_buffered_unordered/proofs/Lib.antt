@@ -1,3 +1,4 @@
+pub mod Common
 pub mod StreamAnswersLemmas
 pub mod HeldLemmas
 pub mod HeldGivesLemmas

@@ -1,24 +1,7 @@
 -- What the streams of a merge give over many polls.
-use Rattle.std.proofs.Common.{◌≡◌, ◌≢◌, ◌⊎◌, ℕ, ◌==◌, ◌<◌, ◌≤◌, cond, is_some, List, [], ◌∷◌, ◌++◌, length, Option, Some, None, MatchOption, IfSome, refl, sym, ap, subst, inl, inr, arith, ◌∙◌}
-use Rattle.std.specs.List.{FoldsTo}
-use Rattle.std.proofs.lemmas.Bool.{cases_eq, cases_lt, eq-eqb, ne_eqb}
-use Rattle.std.proofs.lemmas.List.{get_or-set_other, get_or_past, map-append}
-use Rattle.std.proofs.lemmas.List.Elements.{filter_map-append}
-use Rattle.std.proofs.lemmas.List.Sums.{get_or-le-sum_by}
-use Rattle.futures.specs.Poll.{IfReady, OnPending}
-use Rattle.futures.specs.Runs.{After, Within, seconds}
-use Rattle.futures.specs.declared.task.context.Context.{Context}
-use Rattle.futures.specs.declared.task.Poll.{Poll}
-use Rattle.futures.specs.declared.task.Poll.TheVariants.{Ready, Pending}
-use Rattle.futures_buffered_core.specs.SlotMap.{Slots, value_in, held_count, with_value, with_slot_freed}
-use Rattle.futures_buffered_unordered.specs.Held.{Passes}
-use Rattle.futures_buffered_unordered.specs.FuturesUnorderedBounded.{Bounded}
+use Rattle.futures_buffered_unordered.proofs.Common.{◌≡◌, ◌≢◌, ◌⊎◌, ℕ, ◌==◌, ◌<◌, ◌≤◌, cond, is_some, List, [], ◌∷◌, ◌++◌, length, Option, Some, None, MatchOption, IfSome, refl, sym, ap, subst, inl, inr, arith, ◌∙◌, FoldsTo, cases_eq, cases_lt, eq-eqb, ne_eqb, get_or-set_other, get_or_past, map-append, filter_map-append, get_or-le-sum_by, IfReady, OnPending, After, Within, seconds, Context, Poll, Ready, Pending, Slots, value_in, held_count, with_value, with_slot_freed, Passes, Bounded, item_of, items_in, Gave, ReadySourceOf, PollsMergeBounded, RoundEnds, SlotStreamOf, items_at, StreamsGave, ComesFromStreams, KeepsOrder}
 use Rattle.futures_buffered_unordered.proofs.HeldLemmas.{value_in-with_value}
 use Rattle.futures_buffered_unordered.proofs.HeldGivesLemmas.{value_in-with_slot_freed, value_in-with_slot_freed_other}
-use Rattle.futures_buffered_unordered.specs.SlotStream.{item_of, items_in, Gave}
-use Rattle.futures_buffered_unordered.specs.PollsBounded.{ReadySourceOf}
-use Rattle.futures_buffered_unordered.specs.Merging.{PollsMergeBounded, RoundEnds, SlotStreamOf}
-use Rattle.futures_buffered_unordered.specs.MergeBounded.{items_at, StreamsGave, ComesFromStreams, KeepsOrder}
 use Rattle.futures_buffered_unordered.proofs.SlotStreamLemmas.{gave_none, gave_pending, gave_item, became_none, became_on}
 
 pub items_here : {A : Type 0} (i : ℕ) (x : A) → items_at i ((i, x) ∷ []) ≡ x ∷ []

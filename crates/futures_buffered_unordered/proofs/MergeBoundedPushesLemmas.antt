@@ -1,18 +1,7 @@
 -- What the streams of a merge give over many polls, with pushes between them.
-use Rattle.std.proofs.Common.{ℕ, ◌==◌, cond, List, [], ◌∷◌, ◌++◌, Option, Some, None, refl, sym, ap, subst, inl, inr, append_assoc, ◌∙◌}
-use Rattle.std.proofs.lemmas.Bool.{cases_eq}
-use Rattle.std.proofs.lemmas.List.{map-append}
-use Rattle.std.proofs.lemmas.List.Elements.{filter_map-append}
-use Rattle.futures.specs.Runs.{seconds}
-use Rattle.futures.specs.declared.task.context.Context.{Context}
-use Rattle.futures.specs.declared.task.Poll.{Poll}
-use Rattle.futures_buffered_core.specs.SlotMap.{Slots, value_in, Inserts}
-use Rattle.futures_buffered_unordered.specs.FuturesUnorderedBounded.{Bounded}
+use Rattle.futures_buffered_unordered.proofs.Common.{ℕ, ◌==◌, cond, List, [], ◌∷◌, ◌++◌, Option, Some, None, refl, sym, ap, subst, inl, inr, ◌∙◌, cases_eq, map-append, filter_map-append, seconds, Context, Poll, Slots, value_in, Inserts, Bounded, ReadySourceOf, item_of, items_in, PollsMergeBounded, SlotStreamOf, answered, pushed, answers_of, streams_of, HeldInTurn, SlotsGaveInTurn, KeepsOrderWithPushes}
+use Rattle.std.proofs.Common.{append_assoc}
 use Rattle.futures_buffered_unordered.proofs.HeldLemmas.{value_inserted, value_inserted_other}
-use Rattle.futures_buffered_unordered.specs.PollsBounded.{ReadySourceOf}
-use Rattle.futures_buffered_unordered.specs.SlotStream.{item_of, items_in}
-use Rattle.futures_buffered_unordered.specs.Merging.{PollsMergeBounded, SlotStreamOf}
-use Rattle.futures_buffered_unordered.specs.MergeBounded.{answered, pushed, answers_of, streams_of, HeldInTurn, SlotsGaveInTurn, KeepsOrderWithPushes}
 use Rattle.futures_buffered_unordered.proofs.SlotStreamLemmas.{became_none, became_on, gave_none}
 use Rattle.futures_buffered_unordered.proofs.MergeBoundedLemmas.{items_elsewhere, items_here, polled_gave, streams_none}
 

@@ -1,17 +1,8 @@
 -- What `futures` asks of a poll of a merge.
 use Rattle.std.specs.Prelude.{◌<◌, Option}
-use Rattle.futures.specs.declared.task.context.Context.{Context}
-use Rattle.futures.specs.declared.task.Poll.{Poll}
-use Rattle.futures_buffered_core.specs.SlotMap.{held_count}
+use Rattle.futures_buffered_unordered.proofs.Common.{Context, Poll, held_count, AnyNeeds, EachHeld, Growing, Bounded, AllHeld, StreamAnswers, stream_of, ComesFromStreams, ItemsComeFromGroups, PollsMergeUnbounded, PollsMergeBounded, SlotStreamOf}
 use Rattle.futures_buffered_core.specs.declared.ready_source.ReadySource.{Ghosts as ReadySourceOf}
-use Rattle.futures_buffered_unordered.specs.FuturesUnordered.{AnyNeeds, EachHeld, Growing}
-use Rattle.futures_buffered_unordered.specs.FuturesUnorderedBounded.{Bounded}
-use Rattle.futures_buffered_unordered.specs.Held.{AllHeld}
-use Rattle.futures_buffered_unordered.specs.StreamAnswers.{StreamAnswers, stream_of}
 use Rattle.futures_buffered_unordered.proofs.StreamAnswersLemmas.{answers_of, covers_fewer}
-use Rattle.futures_buffered_unordered.specs.MergeBounded.{ComesFromStreams}
-use Rattle.futures_buffered_unordered.specs.MergeUnbounded.{ItemsComeFromGroups, PollsMergeUnbounded}
-use Rattle.futures_buffered_unordered.specs.Merging.{PollsMergeBounded, SlotStreamOf}
 use Rattle.futures_buffered_unordered.proofs.MergeBoundedLemmas.{value_of, rest_of, same_of}
 use Rattle.futures_buffered_unordered.proofs.MergeUnboundedLemmas.{group_value, group_rest, group_same}
 

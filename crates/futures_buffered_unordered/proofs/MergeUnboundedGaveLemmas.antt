@@ -1,22 +1,7 @@
 -- What the groups of a merge give over many polls.
-use Rattle.std.proofs.Common.{◌≡◌, ◌⊎◌, ℕ, zero, suc, ◌+◌, Bool, true, false, List, [], ◌∷◌, ◌++◌, take, drop, Option, Some, None, refl, sym, ap, subst, inl, inr, append-nil}
-use Rattle.std.proofs.lemmas.List.{map-append}
-use Rattle.std.proofs.lemmas.List.Elements.{filter_map-append}
-use Rattle.futures.specs.declared.task.context.Context.{Context}
-use Rattle.futures.specs.declared.task.Poll.{Poll}
-use Rattle.futures.specs.declared.task.Poll.TheVariants.{Ready, Pending}
-use Rattle.futures_buffered_core.specs.SlotMap.{Slots}
+use Rattle.futures_buffered_unordered.proofs.Common.{◌≡◌, ◌⊎◌, ℕ, zero, suc, ◌+◌, Bool, true, false, List, [], ◌∷◌, ◌++◌, take, drop, Option, Some, None, refl, sym, ap, subst, inl, inr, append-nil, map-append, filter_map-append, Context, Poll, Ready, Pending, Slots, Bounded, Growing, AsksInTurn, AsksOne, Groups, LeavesBetween, next_place, unless_registered, item_of, items_in, OfSomeTask, SlotStreamOf, SlotsGaveInTurn, HoldsNone, GroupsGaveInTurn, KeepsOrderInGroups, PollsMergeUnbounded, slots_of_each}
 use Rattle.futures_buffered_core.specs.declared.ready_source.ReadySource.{Ghosts as ReadySourceOf}
-use Rattle.futures_buffered_unordered.specs.FuturesUnorderedBounded.{Bounded}
-use Rattle.futures_buffered_unordered.specs.FuturesUnordered.{Growing}
-use Rattle.futures_buffered_unordered.specs.Groups.{AsksInTurn, AsksOne, Groups, LeavesBetween, next_place}
-use Rattle.futures_buffered_unordered.specs.PollsBounded.{unless_registered}
-use Rattle.futures_buffered_unordered.specs.SlotStream.{item_of, items_in}
-use Rattle.futures_buffered_unordered.specs.StreamAnswers.{OfSomeTask}
-use Rattle.futures_buffered_unordered.specs.Merging.{SlotStreamOf}
-use Rattle.futures_buffered_unordered.specs.MergeBounded.{SlotsGaveInTurn}
 use Rattle.futures_buffered_unordered.specs.Interleaves.{Interleaves}
-use Rattle.futures_buffered_unordered.specs.MergeUnbounded.{HoldsNone, GroupsGaveInTurn, KeepsOrderInGroups, PollsMergeUnbounded, slots_of_each}
 use Rattle.futures_buffered_unordered.proofs.MergeBoundedLemmas.{end_gave}
 use Rattle.futures_buffered_unordered.proofs.MergeBoundedPushesLemmas.{turn_polled, turns_none, turns_on}
 use Rattle.futures_buffered_unordered.proofs.MergeUnboundedLemmas.{PollsOneMerge}

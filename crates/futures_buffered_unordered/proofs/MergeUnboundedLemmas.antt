@@ -1,20 +1,5 @@
 -- What one poll makes of the groups of a merge.
-use Rattle.std.proofs.Common.{◌≡◌, ℕ, Bool, false, ◌<◌, ◌↔◌, List, [], ◌∷◌, length, Option, Some, None, IfSome, refl, sym, subst, arith}
-use Rattle.std.specs.List.{FoldsTo}
-use Rattle.futures.specs.Poll.{IfReady, OnPending}
-use Rattle.futures.specs.Runs.{After, Within}
-use Rattle.futures.specs.declared.task.context.Context.{Context}
-use Rattle.futures.specs.declared.task.Poll.{Poll}
-use Rattle.futures.specs.declared.task.Poll.TheVariants.{Ready, Pending}
-use Rattle.futures_buffered_core.specs.ReadySource.{WaitsAlike}
-use Rattle.futures_buffered_table.specs.declared.answer.Taken.{Taken}
-use Rattle.futures_buffered_table.specs.declared.answer.Woke.{Woke}
-use Rattle.futures_buffered_unordered.specs.FuturesUnorderedBounded.{Bounded, held_in}
-use Rattle.futures_buffered_unordered.specs.Groups.{AnyOf, AsksInTurn, Groups}
-use Rattle.futures_buffered_unordered.specs.FuturesUnordered.{held_in_all}
-use Rattle.futures_buffered_unordered.specs.PollsBounded.{ReadySourceOf, unless_registered}
-use Rattle.futures_buffered_unordered.specs.Merging.{LastRound, PollsMergeBounded, RoundEnds, SlotStreamOf, each_stream}
-use Rattle.futures_buffered_unordered.specs.MergeUnbounded.{GroupMayGive, ItemsComeFromGroups}
+use Rattle.futures_buffered_unordered.proofs.Common.{◌≡◌, ℕ, Bool, false, ◌<◌, ◌↔◌, List, [], ◌∷◌, length, Option, Some, None, IfSome, refl, sym, subst, arith, FoldsTo, IfReady, OnPending, After, Within, Context, Poll, Ready, Pending, WaitsAlike, Taken, Woke, Bounded, held_in, AnyOf, AsksInTurn, Groups, held_in_all, ReadySourceOf, unless_registered, LastRound, PollsMergeBounded, RoundEnds, SlotStreamOf, each_stream, GroupMayGive, ItemsComeFromGroups}
 use Rattle.futures_buffered_unordered.proofs.FuturesUnorderedInvariantLemmas.{alike_asked, alike_on, alike_self}
 use Rattle.futures_buffered_unordered.proofs.GroupsLemmas.{Weighs, output_weighs, turns_any, turns_output, turns_weigh}
 use Rattle.futures_buffered_unordered.proofs.MergeBoundedLemmas.{value_of, rest_of, same_of, ended_of}

@@ -1,17 +1,7 @@
 -- What the groups of a merge give over many polls, with pushes between them.
-use Rattle.std.proofs.Common.{◌≡◌, ◌⊎◌, ℕ, ◌<◌, List, [], ◌∷◌, ◌++◌, Option, refl, ap, subst, inl, inr, ◌∙◌}
-use Rattle.std.specs.List.{AllByRecursion}
-use Rattle.std.proofs.lemmas.List.{append-nil, append_assoc, map-append}
-use Rattle.futures.specs.declared.task.Poll.{Poll}
-use Rattle.futures_buffered_core.specs.SlotMap.{Slots, Inserts, slot_count}
+use Rattle.futures_buffered_unordered.proofs.Common.{◌≡◌, ◌⊎◌, ℕ, ◌<◌, List, [], ◌∷◌, ◌++◌, Option, refl, ap, subst, inl, inr, ◌∙◌, AllByRecursion, append_assoc, map-append, Poll, Slots, Inserts, slot_count, Bounded, IsNewSet, held_in, Growing, GrowingPushes, next_capacity, spare_places, FIRST_GROUP, items_in, SlotStreamOf, answered, pushed, answers_of, streams_of, HoldsNone, GroupsGaveInTurn, KeepsOrderInGroupsWithPushes, slots_of_each}
+use Rattle.std.proofs.lemmas.List.{append-nil}
 use Rattle.futures_buffered_core.specs.declared.ready_source.ReadySource.{Ghosts as ReadySourceOf}
-use Rattle.futures_buffered_unordered.specs.FuturesUnorderedBounded.{Bounded, IsNewSet, held_in}
-use Rattle.futures_buffered_unordered.specs.FuturesUnordered.{Growing, GrowingPushes, next_capacity, spare_places}
-use Rattle.futures_buffered_unordered.specs.declared.futures_unordered.TheConstants.{FIRST_GROUP}
-use Rattle.futures_buffered_unordered.specs.SlotStream.{items_in}
-use Rattle.futures_buffered_unordered.specs.Merging.{SlotStreamOf}
-use Rattle.futures_buffered_unordered.specs.MergeBounded.{answered, pushed, answers_of, streams_of}
-use Rattle.futures_buffered_unordered.specs.MergeUnbounded.{HoldsNone, GroupsGaveInTurn, KeepsOrderInGroupsWithPushes, slots_of_each}
 use Rattle.futures_buffered_unordered.proofs.FuturesUnorderedLemmas.{new_holds_none}
 use Rattle.futures_buffered_unordered.proofs.MergeBoundedLemmas.{none_held}
 use Rattle.futures_buffered_unordered.proofs.MergeBoundedPushesLemmas.{turns_none, turns_pushed}

@@ -1,16 +1,6 @@
 -- From one round of a merge to a poll of it.
-use Rattle.std.proofs.Common.{◌≡◌, ◌⊎◌, ◌+◌, ℕ, List, [], ◌∷◌, Option, Some, None, true, ◌<◌, refl, sym, ap, subst, inl, arith, ◌∙◌}
-use Rattle.std.specs.List.{FoldsTo}
-use Rattle.futures.specs.declared.task.context.Context.{Context}
-use Rattle.futures.specs.declared.task.Poll.{Poll}
-use Rattle.futures.specs.declared.task.Poll.TheVariants.{Ready, Pending}
-use Rattle.futures_buffered_core.specs.SlotMap.{Slots, slot_count}
-use Rattle.futures_buffered_table.specs.declared.answer.Woke.{Woke}
-use Rattle.futures_buffered_unordered.specs.FuturesUnorderedBounded.{Bounded, IsWoken, held_in, with_empty_slot}
-use Rattle.futures_buffered_unordered.specs.Held.{AllHeld}
-use Rattle.futures_buffered_unordered.specs.PollsBounded.{ReadySourceOf, RegistersAndTakes, unless_registered}
+use Rattle.futures_buffered_unordered.proofs.Common.{◌≡◌, ◌⊎◌, ◌+◌, ℕ, List, [], ◌∷◌, Option, Some, None, true, ◌<◌, refl, sym, ap, subst, inl, arith, ◌∙◌, FoldsTo, Context, Poll, Ready, Pending, Slots, slot_count, with_slot_freed, Woke, Bounded, IsWoken, held_in, AllHeld, ReadySourceOf, RegistersAndTakes, unless_registered, LastRound, PollsMergeBounded, RoundEnds, SlotStreamOf, each_stream}
 use Rattle.futures_buffered_unordered.proofs.PollsBoundedLemmas.{output_leaves, pending_leaves}
-use Rattle.futures_buffered_unordered.specs.Merging.{LastRound, PollsMergeBounded, RoundEnds, SlotStreamOf, each_stream}
 
 -- two sets that differ in their source alone
 same_but_source : {F S : Type 0} (left new : Bounded F S) → new.slots ≡ left.slots → new.limit ≡ left.limit → new ≡ record left { source = new.source }
@@ -86,7 +76,7 @@ module _ {St W A S : Type 0} (stream : SlotStreamOf St W A) (source : ReadySourc
         }
 
     -- the round ended a stream
-    pub round_ends : (before new : Bounded St S) (i : ℕ) → RegistersAndTakes (each_stream stream) source old (Ready (i, None)) before cx left → new ≡ with_empty_slot before i → held_in new + 1 ≡ held_in before → slot_count new.slots ≡ slot_count before.slots → GoesOn old cx new left
+    pub round_ends : (before new : Bounded St S) (i : ℕ) → RegistersAndTakes (each_stream stream) source old (Ready (i, None)) before cx left → new ≡ record before { slots = with_slot_freed before.slots i } → held_in new + 1 ≡ held_in before → slot_count new.slots ≡ slot_count before.slots → GoesOn old cx new left
     round_ends before new i asks emptied one capacity answer last after p =
         let it = asks.takes in
         record {

@@ -1,20 +1,6 @@
 -- A poll of a bounded set: what it has asked so far, how it ends, and the poll as one of a stream.
-use Rattle.std.proofs.Common.{◌≡◌, ◌⊎◌, inl, inr, ℕ, ◌+◌, ◌<◌, true, List, [], ◌∷◌, ◌++◌, map, length, Option, Some, None, is_some, refl, sym, ap, subst, arith, append-nil, length-set, ◌∙◌}
-use Rattle.std.specs.List.{FoldsTo}
+use Rattle.futures_buffered_unordered.proofs.Common.{◌≡◌, ◌⊎◌, inl, inr, ℕ, ◌+◌, ◌<◌, true, List, [], ◌∷◌, ◌++◌, map, length, Option, Some, None, is_some, refl, sym, ap, subst, arith, append-nil, length-set, ◌∙◌, FoldsTo, FoldsTo-push, length_push, map_push, Covers, Keeps, Context, Poll, Ready, Pending, Slots, value_in, held_count, slot_count, with_slot_freed, with_value, Taken, Slot, Empty, Pause, StreamAnswers, stream_of, AllHeld, ComesFrom, EndsWith, Passes, Bounded, IsWoken, held_in, EndsPending, PollOneOf, PollsBounded, ReadySourceOf, RegistersAndTakes, TakesNames, unless_registered}
 use Rattle.std.specs.Option.{option_to_list}
-use Rattle.std.proofs.lemmas.Fn.{FoldsTo-push}
-use Rattle.std.proofs.lemmas.List.{length_push, map_push}
-use Rattle.futures.specs.Task.{Covers, Keeps}
-use Rattle.futures.specs.declared.task.context.Context.{Context}
-use Rattle.futures.specs.declared.task.Poll.{Poll}
-use Rattle.futures.specs.declared.task.Poll.TheVariants.{Ready, Pending}
-use Rattle.futures_buffered_core.specs.SlotMap.{Slots, value_in, held_count, slot_count, with_value}
-use Rattle.futures_buffered_table.specs.declared.answer.Taken.{Taken}
-use Rattle.futures_buffered_table.specs.declared.answer.Taken.TheVariants.{Slot, Empty, Pause}
-use Rattle.futures_buffered_unordered.specs.StreamAnswers.{StreamAnswers, stream_of}
-use Rattle.futures_buffered_unordered.specs.Held.{AllHeld, ComesFrom, EndsWith, Passes}
-use Rattle.futures_buffered_unordered.specs.FuturesUnorderedBounded.{Bounded, IsWoken, held_in, with_empty_slot}
-use Rattle.futures_buffered_unordered.specs.PollsBounded.{EndsPending, PollOneOf, PollsBounded, ReadySourceOf, RegistersAndTakes, TakesNames, unless_registered}
 use Rattle.futures_buffered_unordered.proofs.HeldLemmas.{AllHeld-with, others-with, count-with, same-with, value_in-with_value, passes_pending}
 use Rattle.futures_buffered_unordered.proofs.StreamAnswersLemmas.{answers_of, covers_fewer}
 use Rattle.futures_buffered_unordered.proofs.FuturesUnorderedBoundedLemmas.{rest_of, same_of, value_of}
@@ -186,7 +172,7 @@ module _ {R F W A S : Type 0} (rule : PollOneOf R F W A) (source : ReadySourceOf
         pollable = it.pollable;
       }
 
-  pub polls_output : (i : ℕ) (x : A) (before : Bounded F S) → RegistersAndTakes rule source old (Ready (i, x)) before cx left → new ≡ with_empty_slot before i → held_in new + 1 ≡ held_in before → slot_count new.slots ≡ slot_count before.slots → AllHeld rule.can_poll new.slots → PollsBounded rule source old (Ready (Some x)) new cx left
+  pub polls_output : (i : ℕ) (x : A) (before : Bounded F S) → RegistersAndTakes rule source old (Ready (i, x)) before cx left → new ≡ record before { slots = with_slot_freed before.slots i } → held_in new + 1 ≡ held_in before → slot_count new.slots ≡ slot_count before.slots → AllHeld rule.can_poll new.slots → PollsBounded rule source old (Ready (Some x)) new cx left
   polls_output i x before asks emptied fewer capacity pollable =
       let it = asks.takes in
       record {

@@ -1,10 +1,5 @@
 -- Polls of one stream, one row behind another.
-use Rattle.std.proofs.Common.{◌≡◌, List, [], ◌∷◌, ◌++◌, Option, Some, None, refl, sym, subst, append-nil}
-use Rattle.std.specs.List.{AllByRecursion, FoldsTo}
-use Rattle.std.proofs.lemmas.List.Elements.{filter_map-append}
-use Rattle.futures.specs.declared.task.Poll.{Poll}
-use Rattle.futures.specs.declared.task.Poll.TheVariants.{Ready, Pending}
-use Rattle.futures_buffered_unordered.specs.SlotStream.{item_of, IsNoEnd, Gave, Became}
+use Rattle.futures_buffered_unordered.proofs.Common.{◌≡◌, List, [], ◌∷◌, ◌++◌, Option, Some, None, refl, sym, subst, append-nil, AllByRecursion, FoldsTo, filter_map-append, Poll, Ready, Pending, item_of, IsNoEnd, Gave, Became}
 
 -- steps that follow others
 pub folds_append : {P A : Type 0} (step : P → A → P → Type 0) (xs ys : List A) (p q r : P) → FoldsTo step p xs q → FoldsTo step q ys r → FoldsTo step p (xs ++ ys) r

@@ -1,12 +1,5 @@
 -- What holds after every poll holds after each answer.
-use Rattle.std.proofs.Common.{arith, ℕ, [], Option, IfSome, OnSome}
-use Rattle.futures.specs.Task.{Covers, Keeps}
-use Rattle.futures.specs.Poll.{IfReady, OnPending}
-use Rattle.futures.specs.Runs.{After, Within}
-use Rattle.futures_buffered_unordered.specs.StreamAnswers.{StreamAnswers, StreamOf}
-use Rattle.futures.specs.declared.task.context.Context.{Context}
-use Rattle.futures.specs.declared.task.Poll.{Poll}
-use Rattle.futures.specs.declared.task.Poll.TheVariants.{Ready, Pending}
+use Rattle.futures_buffered_unordered.proofs.Common.{arith, ℕ, [], Option, IfSome, OnSome, Covers, Keeps, IfReady, OnPending, After, Within, StreamAnswers, StreamOf, Context, Poll, Ready, Pending}
 
 pub after_item : {A P : Type 0} (answer : Poll (Option A)) → P → IfReady answer (λ o. OnSome o P)
 after_item answer p = grind arith

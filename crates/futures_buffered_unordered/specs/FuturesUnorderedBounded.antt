@@ -5,7 +5,7 @@ use Rattle.std.specs.Coded.{Coded, code_by, coded×, coded_ℕ}
 use Rattle.futures.specs.Task.{Hears}
 use Rattle.futures.specs.declared.task.context.Context.{Context}
 use Rattle.futures_buffered_core.specs.SlotMap.{Slots, slots_code, held_count, slot_count, no_slots, all_slots}
-use Rattle.futures_buffered_core.specs.SlotMap.{with_slot_freed, Inserts, IsFull}
+use Rattle.futures_buffered_core.specs.SlotMap.{Inserts, IsFull}
 use Rattle.futures_buffered_table.specs.declared.answer.Woke.{Woke}
 use Rattle.futures_buffered_core.specs.ReadySource.{MarksEach}
 
@@ -39,10 +39,6 @@ pub record IsNewSet {F S : Type 0} (made : ℕ → S → Type 0) (n limit : ℕ)
   pub none_held : set.slots ≡ no_slots n
   pub new_source : made n set.source
   pub takes_at_most : set.limit ≡ limit
-
--- the set with slot i empty, as the first of its free slots; the source and the limit do not change
-abbrev pub with_empty_slot : {F S : Type 0} → Bounded F S → ℕ → Bounded F S
-with_empty_slot b i = record b { slots = with_slot_freed b.slots i }
 
 -- the set with each slot free; the source and the limit do not change
 abbrev pub emptied : {F S : Type 0} → Bounded F S → Bounded F S

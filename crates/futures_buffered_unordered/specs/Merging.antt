@@ -6,11 +6,11 @@ use Rattle.futures.specs.Task.{Covers, Keeps}
 use Rattle.futures.specs.declared.task.context.Context.{Context}
 use Rattle.futures.specs.declared.task.Poll.{Poll}
 use Rattle.futures.specs.declared.task.Poll.TheVariants.{Ready, Pending}
-use Rattle.futures_buffered_core.specs.SlotMap.{slot_count}
+use Rattle.futures_buffered_core.specs.SlotMap.{slot_count, with_slot_freed}
 use Rattle.futures_buffered_table.specs.declared.answer.Woke.{Woke}
 pub use Rattle.futures_buffered_unordered.specs.declared.slot_stream.SlotStream.{Ghosts as SlotStreamOf}
 use Rattle.futures_buffered_unordered.specs.declared.slot_stream.PollStream.{PollStream}
-use Rattle.futures_buffered_unordered.specs.FuturesUnorderedBounded.{Bounded, held_in, with_empty_slot}
+use Rattle.futures_buffered_unordered.specs.FuturesUnorderedBounded.{Bounded, held_in}
 use Rattle.futures_buffered_unordered.specs.Held.{AllHeld}
 use Rattle.futures_buffered_unordered.specs.PollsBounded.{PollOneOf, ReadySourceOf, RegistersAndTakes}
 
@@ -41,7 +41,7 @@ module _
     RoundEnds (old, cx) i (new, left) = (0 < held_in old)
         × ((before : Bounded St S)
         × RegistersAndTakes (each_stream stream) source old (Ready (i, None)) before cx left
-        × (new ≡ with_empty_slot before i))
+        × (new ≡ record before { slots = with_slot_freed before.slots i }))
 
     -- The last round, by the result of the poll. An item: its stream stays as the poll left it, and its slot is marked.
     -- Pending: no polled stream returned an item or `None`. `None`: no stream is held, and neither the merge nor the

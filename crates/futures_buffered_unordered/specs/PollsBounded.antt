@@ -13,13 +13,12 @@ use Rattle.futures.specs.declared.task.Poll.TheVariants.{Ready, Pending}
 use Rattle.futures_buffered_table.specs.declared.answer.Taken.{Taken}
 use Rattle.futures_buffered_table.specs.declared.answer.Taken.TheVariants.{Slot, Empty, Pause}
 pub use Rattle.futures_buffered_core.specs.declared.ready_source.ReadySource.{Ghosts as ReadySourceOf}
-use Rattle.futures_buffered_core.specs.SlotMap.{Slots, slot_count, value_in}
+use Rattle.futures_buffered_core.specs.SlotMap.{Slots, slot_count, value_in, with_slot_freed}
 use Rattle.futures_buffered_unordered.specs.declared.poll_one.PollFuture.{PollFuture}
 pub use Rattle.futures_buffered_unordered.specs.declared.poll_one.PollOne.{Ghosts as PollOneOf}
 pub use Rattle.futures_buffered_unordered.specs.declared.slot_future.SlotFuture.{Ghosts as SlotFutureOf}
 use Rattle.futures_buffered_unordered.specs.Held.{AllHeld, Passes, Yields}
 use Rattle.futures_buffered_unordered.specs.FuturesUnorderedBounded.{Bounded, IsWoken, held_in}
-use Rattle.futures_buffered_unordered.specs.FuturesUnorderedBounded.{with_empty_slot}
 
 -- the rule that polls each future itself
 abbrev pub itself : {F W A : Type 0} → SlotFutureOf F W A → PollOneOf PollFuture F W A
@@ -122,7 +121,8 @@ module _
     Gives old (Ready None) new cx left = (held_in old ≡ 0) × (new ≡ old) × (left ≡ cx)
     Gives old (Ready (Some x)) new cx left = (0 < held_in old)
         × ((i : ℕ) × (before : Bounded F S)
-        × RegistersAndTakes old (Ready (i, x)) before cx left × (new ≡ with_empty_slot before i))
+        × RegistersAndTakes old (Ready (i, x)) before cx left
+        × (new ≡ record before { slots = with_slot_freed before.slots i }))
     Gives old Pending new cx left = (0 < held_in old) × RegistersAndTakes old Pending new cx left
 
     -- One poll, which takes the set from `old` to `new` and the task from `cx` to `left`.

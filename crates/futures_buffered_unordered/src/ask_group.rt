@@ -36,7 +36,7 @@ pub trait AskGroup<F: Drop, S: NewSource, K> {
         → Context → Context → Type 0 };
 
     /// Polls a group once. If the group holds a value, registers the task, unless the task is already registered with a
-    /// group next to it. In that case leaves the task, or wakes it.
+    /// group next to it. In that case does not change the task, or wakes it.
     fn ask(
         &self,
         group: &mut BoundedSet<F, S, K>,

@@ -9,11 +9,10 @@ ghost use Rattle.futures_buffered_core.specs.Drawn.{IsFiniteSource, items_of};
 ghost use Rattle.futures_buffered_core.specs.Made.{MakesSlots};
 ghost use Rattle.futures_buffered_core.specs.ReadyShared.{IsNewShared, MarksShared};
 ghost use Rattle.futures_buffered_core.specs.ReadySource.{WaitsAlike};
-ghost use Rattle.futures_buffered_core.specs.SlotMap.{value_in, held_count, slot_count, no_slots, IsFull};
+ghost use Rattle.futures_buffered_core.specs.SlotMap.{IsFull, held_count, no_slots, slot_count, value_in, with_slot_freed};
 ghost use Rattle.futures_buffered_unordered.specs.Held.{AllHeld};
 ghost use Rattle.futures_buffered_unordered.specs.FuturesUnorderedBounded.{HoldsEach, IsNewSet, Pushes, PushesIfRoom};
 ghost use Rattle.futures_buffered_unordered.specs.FuturesUnorderedBounded.{PushesOne, emptied, slots_in};
-ghost use Rattle.futures_buffered_unordered.specs.FuturesUnorderedBounded.{with_empty_slot};
 ghost use Rattle.futures_buffered_unordered.specs.PollsBounded.{CanPollRegistered, PollsBounded};
 ghost use Rattle.futures_buffered_unordered.specs.PollsBounded.{RegistersAndTakes, TakesNames, unless_registered};
 ghost use Rattle.futures_buffered_unordered.specs.Extended.{Extends, MakesFull};
@@ -338,7 +337,7 @@ impl<F: Drop, S: ReadySource, K> BoundedSet<F, S, K> {
     /// Drops the value of a slot. That slot is then the first free one.
     pub fn empty_slot(&mut self, i: usize)
         requires { IsSome (value_in self.old.slots i) }
-        ensures emptied { self.new ≡ with_empty_slot self.old i }
+        ensures emptied { self.new ≡ record self.old { slots = with_slot_freed self.old.slots i } }
         ensures count { held_count self.new.slots + 1 ≡ held_count self.old.slots }
         ensures capacity { slot_count self.new.slots ≡ slot_count self.old.slots }
     {

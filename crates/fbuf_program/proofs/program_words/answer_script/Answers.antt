@@ -1,4 +1,4 @@
-use Rattle.std.proofs.Common.{ap, Err, inl, inr}
+use Rattle.fbuf_program.proofs.Common.{ap, Err, inl, inr}
 use Rattle.fbuf_program.proofs.ProgramWordsLemmas.{ends_in_part, nothing_written, script_part}
 use Rattle.fbuf_program.proofs.ProgramWordsLemmas.{script_status, start_status}
 use Rattle.fbuf_program.proofs.program_words.answer_script.Goals as goal

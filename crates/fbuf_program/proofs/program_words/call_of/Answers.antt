@@ -1,4 +1,4 @@
-use Rattle.std.proofs.Common.{◌≡◌, [], ◌∷◌, codes, not, sym, ap, ◌∙◌}
+use Rattle.fbuf_program.proofs.Common.{◌≡◌, [], ◌∷◌, codes, not, sym, ap, ◌∙◌}
 use Rattle.std.specs.String.{string_bytes}
 use Rattle.std.proofs.lemmas.Slice.Eq.{bytes_eq-Decides}
 use Rattle.fbuf_program.proofs.ProgramWordsLemmas.{no_word_left}

@@ -1,4 +1,4 @@
-use Rattle.std.proofs.Common.{sym, ◌∙◌}
+use Rattle.fbuf_program.proofs.Common.{sym, ◌∙◌}
 use Rattle.fbuf_program.proofs.ProgramWordsLemmas.{usage_status}
 use Rattle.fbuf_program.proofs.program_words.run_words.Goals as goal
 use Rattle.fbuf_program.proofs.program_words.run_words.Goals.{in-Ok, in-Err}

@@ -1,5 +1,4 @@
-use Rattle.std.proofs.Common.{◌≡◌, sym, ◌∙◌, arith}
-use Rattle.std.proofs.lemmas.Fmt.{decimal_injective}
+use Rattle.fbuf_program.proofs.Common.{◌≡◌, sym, ◌∙◌, arith, decimal_injective}
 use Rattle.fbuf_program.proofs.program_words.up_to.Goals as goal
 use Rattle.fbuf_program.proofs.program_words.up_to.Goals.{then-n-eq0-via-then-n-eq0}
 use Rattle.fbuf_program.proofs.program_words.up_to.Goals.{then-n-eq0-via-else-n-eq0+then-n-most}

@@ -1,4 +1,4 @@
-use Rattle.std.proofs.Common.{◌∙◌, refl}
+use Rattle.fbuf_program.proofs.Common.{◌∙◌, refl}
 use Rattle.std.proofs.lemmas.Result.{IfErr-at_err, on_ok_weaker}
 use Rattle.fbuf_program.proofs.ScriptLemmas.{RepliesSoFar-start, RepliesSoFar-line, RepliesSoFar-sent}
 use Rattle.fbuf_program.proofs.ScriptLemmas.{replies_whole, replies_cut_short, replies_in_part}

@@ -1,4 +1,4 @@
-use Rattle.std.proofs.Common.{◌≡◌, length}
+use Rattle.fbuf_program.proofs.Common.{◌≡◌, length}
 use Rattle.futures.specs.Task.{Keeps}
 use Rattle.fbuf_program.proofs.ScriptLemmas.{RepliesSoFar}
 use Rattle.fbuf_program.proofs.script.answer_all.Given as goal

@@ -1,5 +1,4 @@
-use Rattle.std.proofs.Common.{arith, [], ◌++◌, append-nil, sym}
-use Rattle.std.proofs.KnownBytes.{Consumes-trans, Consumes-all}
+use Rattle.fbuf_program.proofs.Common.{arith, [], ◌++◌, append-nil, sym, Consumes-trans, Consumes-all}
 use Rattle.fbuf_program.proofs.script.read_to_end.Goals as goal
 
 pub returns-then-count-eq0-clause-ok : goal.returns-then-count-eq0-clause-ok

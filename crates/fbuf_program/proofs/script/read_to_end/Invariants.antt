@@ -1,5 +1,4 @@
-use Rattle.std.proofs.Common.{◌≡◌, ◌≤◌, vec_len}
-use Rattle.std.specs.Io.KnownBytes.{Consumes}
+use Rattle.fbuf_program.proofs.Common.{◌≡◌, ◌≤◌, vec_len, Consumes}
 use Rattle.fbuf_program.proofs.script.read_to_end.Given as goal
 
 abbrev pub invariant-loop : goal.invariant-loop

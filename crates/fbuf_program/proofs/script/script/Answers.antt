@@ -1,4 +1,4 @@
-use Rattle.std.proofs.Common.{rules}
+use Rattle.fbuf_program.proofs.Common.{rules}
 use Rattle.fbuf_program.proofs.script.script.Goals as goal
 
 pub returns-clause-ok : goal.returns-clause-ok

@@ -1,5 +1,4 @@
-use Rattle.std.proofs.Common.{◌≡◌, ℕ, length, take, drop}
-use Rattle.std.specs.Io.KnownBytes.{Appends}
+use Rattle.fbuf_program.proofs.Common.{◌≡◌, ℕ, length, take, drop, Appends}
 use Rattle.fbuf_program.proofs.script.write_all.Given as goal
 
 abbrev pub invariant-loop-rest : goal.invariant-loop-rest

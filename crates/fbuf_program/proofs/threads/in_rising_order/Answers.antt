@@ -1,6 +1,4 @@
-use Rattle.std.proofs.Common.{ℕ, ap, ◌∙◌, arith}
-use Rattle.std.proofs.lemmas.List.Sorted.{IsNonDecreasingBy-from_sort}
-use Rattle.fbuf_program.specs.Threads.{times_in}
+use Rattle.fbuf_program.proofs.Common.{ℕ, ap, ◌∙◌, arith, IsNonDecreasingBy-from_sort, times_in}
 use Rattle.fbuf_program.proofs.ThreadsLemmas.{sorted_times, pushed_times}
 use Rattle.fbuf_program.proofs.threads.in_rising_order.Goals as goal
 use Rattle.fbuf_program.proofs.threads.in_rising_order.Goals.{in-Some+in_ok-push, in_default}

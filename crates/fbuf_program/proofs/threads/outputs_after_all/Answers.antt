@@ -1,4 +1,5 @@
-use Rattle.std.proofs.Common.{◌≡◌, ℕ, ◌*◌, sum, length, ap, arith, ◌∙◌}
+use Rattle.fbuf_program.proofs.Common.{◌≡◌, ℕ, ◌*◌, length, ap, arith, ◌∙◌}
+use Rattle.std.proofs.Common.{sum}
 use Rattle.std.proofs.lemmas.Nat.{mul-le}
 use Rattle.fbuf_program.proofs.ThreadsLemmas.{all_numbers}
 use Rattle.fbuf_program.proofs.threads.outputs_after_all.Goals as goal

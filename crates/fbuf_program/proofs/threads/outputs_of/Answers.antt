@@ -1,5 +1,4 @@
-use Rattle.std.proofs.Common.{ap, refl, ◌∙◌}
-use Rattle.fbuf_program.specs.Threads.{times_in}
+use Rattle.fbuf_program.proofs.Common.{ap, refl, ◌∙◌, times_in}
 use Rattle.fbuf_program.proofs.threads.outputs_of.Goals as goal
 
 pub returns-in-Ok-Ok-clause-numbers : goal.returns-in-Ok-Ok-clause-numbers

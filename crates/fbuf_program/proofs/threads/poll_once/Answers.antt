@@ -1,4 +1,4 @@
-use Rattle.futures.specs.declared.task.Poll.TheVariants.{Ready, Pending}
+use Rattle.fbuf_program.proofs.Common.{Ready, Pending}
 use Rattle.fbuf_program.proofs.ThreadsLemmas.{poll_gave, poll_left}
 use Rattle.fbuf_program.proofs.threads.poll_once.Goals as goal
 

@@ -1,9 +1,5 @@
-use Rattle.std.proofs.Common.{◌≡◌, ap, refl, subst, ◌∙◌, length, arith}
-use Rattle.std.specs.List.{range_with_len}
-use Rattle.std.proofs.lemmas.List.FromFn.{length-range_with_len}
+use Rattle.fbuf_program.proofs.Common.{◌≡◌, ap, refl, subst, ◌∙◌, length, arith, range_with_len, length-range_with_len, AllHeld-none, AllHeld-push, HoldsNumbers}
 use Rattle.std.proofs.lemmas.Grind.{common_steps}
-use Rattle.futures_buffered_unordered.proofs.HeldLemmas.{AllHeld-none, AllHeld-push}
-use Rattle.fbuf_program.specs.Threads.{HoldsNumbers}
 use Rattle.fbuf_program.proofs.ThreadsLemmas.{HoldsNumbers-none, HoldsNumbers-push}
 use Rattle.fbuf_program.proofs.threads.seated.Goals as goal
 

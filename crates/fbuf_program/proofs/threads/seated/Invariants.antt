@@ -1,7 +1,4 @@
-use Rattle.std.proofs.Common.{◌≡◌, ◌+◌, ◌≤◌, length, vec_len, vec_capacity}
-use Rattle.std.specs.List.{range_with_len}
-use Rattle.futures_buffered_unordered.specs.Held.{AllHeld}
-use Rattle.fbuf_program.specs.Threads.{HoldsNumbers}
+use Rattle.fbuf_program.proofs.Common.{◌≡◌, ◌+◌, ◌≤◌, length, vec_len, vec_capacity, range_with_len, AllHeld, HoldsNumbers}
 use Rattle.fbuf_program.proofs.threads.seated.Given as goal
 
 abbrev pub invariant-loop-number : goal.invariant-loop-number

@@ -1,5 +1,4 @@
-use Rattle.std.proofs.Common.{◌≡◌, ◌+◌, ◌*◌, vec_len, vec_capacity}
-use Rattle.std.specs.List.{sum}
+use Rattle.fbuf_program.proofs.Common.{◌≡◌, ◌+◌, ◌*◌, vec_len, vec_capacity, sum}
 use Rattle.fbuf_program.proofs.threads.start.Given as goal
 
 abbrev pub invariant-loop-thread : goal.invariant-loop-thread

@@ -1,8 +1,4 @@
-use Rattle.std.proofs.Common.{◌++◌, take}
-use Rattle.std.specs.List.{flat_map}
-use Rattle.std.specs.Io.KnownBytes.{Appends}
-use Rattle.fbuf_lines.specs.Command.{spaced_number}
-use Rattle.fbuf_program.specs.Threads.{threads_text}
+use Rattle.fbuf_program.proofs.Common.{◌++◌, take, flat_map, Appends, spaced_number, threads_text}
 use Rattle.fbuf_program.proofs.threads.write_line.Given as goal
 
 abbrev pub invariant-loop-number : goal.invariant-loop-number

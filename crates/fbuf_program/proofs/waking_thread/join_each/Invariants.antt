@@ -1,5 +1,4 @@
-use Rattle.std.proofs.Common.{◌≡◌, ◌+◌, ◌<◌, ◌^◌, vec_len}
-use Rattle.std.specs.List.{sum}
+use Rattle.fbuf_program.proofs.Common.{◌≡◌, ◌+◌, ◌<◌, ◌^◌, vec_len, sum}
 use Rattle.fbuf_program.proofs.waking_thread.join_each.Given as goal
 
 abbrev pub invariant-loop-count : goal.invariant-loop-count

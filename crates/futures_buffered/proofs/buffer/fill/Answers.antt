@@ -1,4 +1,4 @@
-use Rattle.std.proofs.Common.{refl}
+use Rattle.futures_buffered.proofs.Common.{refl}
 use Rattle.futures_buffered.proofs.BufferLemmas.{fill_gave, fill_item, fill_none}
 use Rattle.futures_buffered.proofs.buffer.fill.Goals as goal
 

@@ -1,4 +1,4 @@
-use Rattle.std.proofs.Common.{◌-◌}
+use Rattle.futures_buffered.proofs.Common.{◌-◌}
 use Rattle.futures_buffered.proofs.BufferLemmas.{Filling}
 use Rattle.futures_buffered.proofs.buffer.fill.Given as goal
 

@@ -1,8 +1,4 @@
-use Rattle.std.proofs.Common.{◌≡◌, ◌+◌, ◌++◌, [], ◌∷◌, take, Some, refl, sym, ap, ◌∙◌, arith, append-nil, append_assoc}
-use Rattle.std.proofs.lemmas.List.{take_more}
-use Rattle.std.proofs.lemmas.Option.{slice_get-get_or}
-use Rattle.futures_buffered_core.specs.declared.ready_core.Event.TheVariants.{Mark}
-use Rattle.futures_buffered_core.specs.History.{Answers}
+use Rattle.futures_buffered_core.proofs.Common.{◌≡◌, ◌+◌, ◌++◌, [], ◌∷◌, take, Some, refl, sym, ap, ◌∙◌, arith, append-nil, append_assoc, take_more, slice_get-get_or, Mark, Answers}
 use Rattle.futures_buffered_core.proofs.HistoryLemmas.{Answers-none, Answers-push, after_mark, after_take}
 use Rattle.futures_buffered_core.proofs.ready_core.run.Goals.{in-Mark, in-Take}
 use Rattle.futures_buffered_core.proofs.ready_core.run.Goals as goal

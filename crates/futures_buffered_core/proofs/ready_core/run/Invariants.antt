@@ -1,8 +1,4 @@
-use Rattle.std.proofs.Common.{◌≡◌, ◌+◌, ◌≤◌, ◌++◌, List, length, take, vec_len, vec_capacity}
-use Rattle.futures_buffered_core.specs.declared.ready_core.Reply.{Reply}
-use Rattle.futures_buffered_core.specs.History.{Answers}
-use Rattle.futures_buffered_core.specs.WrongName.{NamesAllBelow}
-use Rattle.futures_buffered_core.specs.declared.ready_core.Event.TheVariants.{Mark}
+use Rattle.futures_buffered_core.proofs.Common.{◌≡◌, ◌+◌, ◌≤◌, ◌++◌, List, length, take, vec_len, vec_capacity, Reply, Answers, NamesAllBelow, Mark}
 use Rattle.futures_buffered_core.proofs.ready_core.run.Given as goal
 
 abbrev pub invariant-loop-event : goal.invariant-loop-event

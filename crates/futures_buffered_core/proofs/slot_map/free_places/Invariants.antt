@@ -1,5 +1,4 @@
-use Rattle.std.proofs.Common.{◌≡◌, vec_len, vec_capacity}
-use Rattle.futures_buffered_core.specs.SlotMapInvariant.{new_places}
+use Rattle.futures_buffered_core.proofs.Common.{◌≡◌, vec_len, vec_capacity, new_places}
 use Rattle.futures_buffered_core.proofs.slot_map.free_places.Given as goal
 
 abbrev pub invariant-loop-i : goal.invariant-loop-i

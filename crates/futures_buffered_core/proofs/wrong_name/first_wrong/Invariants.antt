@@ -1,4 +1,4 @@
-use Rattle.futures_buffered_core.specs.WrongName.{NamesAllBelow}
+use Rattle.futures_buffered_core.proofs.Common.{NamesAllBelow}
 use Rattle.futures_buffered_core.proofs.wrong_name.first_wrong.Given as goal
 
 abbrev pub invariant-loop-p : goal.invariant-loop-p

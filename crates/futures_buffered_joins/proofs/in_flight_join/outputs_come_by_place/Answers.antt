@@ -1,5 +1,4 @@
-use Rattle.futures_buffered_in_flight.specs.InFlight.{FliesInOrder}
-use Rattle.futures_buffered_joins.specs.InFlightJoin.{flights_waiting}
+use Rattle.futures_buffered_joins.proofs.Common.{FliesInOrder, flights_waiting}
 use Rattle.futures_buffered_joins.proofs.JoinLemmas.{joins_by_place}
 use Rattle.futures_buffered_joins.proofs.in_flight_join.outputs_come_by_place.Goals as goal
 

@@ -1,4 +1,4 @@
-use Rattle.std.proofs.Common.{◌≡◌, replicate, None, vec_capacity}
+use Rattle.futures_buffered_joins.proofs.Common.{◌≡◌, replicate, None, vec_capacity}
 use Rattle.futures_buffered_joins.proofs.outputs.empty_places.Given as goal
 
 abbrev pub invariant-loop : goal.invariant-loop

@@ -1,5 +1,4 @@
-use Rattle.futures_buffered_joins.specs.SlotsJoin.{ItemMayGive, slots_waiting}
-use Rattle.futures_buffered_unordered.specs.FuturesUnorderedBounded.{HoldsEach}
+use Rattle.futures_buffered_joins.proofs.Common.{ItemMayGive, slots_waiting, HoldsEach}
 use Rattle.futures_buffered_joins.proofs.JoinLemmas.{joins_by_place}
 use Rattle.futures_buffered_joins.proofs.SlotsJoinLemmas.{own_item}
 use Rattle.futures_buffered_joins.proofs.slots_join.outputs_come_by_place.Goals as goal

@@ -1,5 +1,4 @@
-use Rattle.std.proofs.Common.{◌≡◌, ◌≤◌, vec_len}
-use Rattle.futures_buffered_ordered.proofs.Common.{MAX_CAPACITY}
+use Rattle.futures_buffered_ordered.proofs.Common.{◌≡◌, ◌≤◌, vec_len, MAX_CAPACITY}
 use Rattle.futures_buffered_ordered.proofs.futures_ordered_bounded.drawn.Given as goal
 
 abbrev pub invariant-loop-item : goal.invariant-loop-item

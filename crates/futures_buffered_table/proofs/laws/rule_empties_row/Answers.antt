@@ -1,5 +1,4 @@
-use Rattle.std.proofs.Common.{ℕ, ◌≤◌, ◌∷◌, sym, ◌∙◌, subst, arith}
-use Rattle.futures_buffered_table.proofs.Common.{FitsRole, times}
+use Rattle.futures_buffered_table.proofs.Common.{ℕ, ◌≤◌, ◌∷◌, sym, ◌∙◌, subst, arith, FitsRole, times}
 use Rattle.futures_buffered_table.proofs.RowLemmas.{alone}
 use Rattle.futures_buffered_table.proofs.WhereaboutsLemmas.{whereabouts}
 use Rattle.futures_buffered_table.proofs.laws.rule_empties_row.Goals as goal

@@ -1,8 +1,4 @@
-use Rattle.std.proofs.Common.{rules, get_or, take, ◌≡◌, ◌++◌, [], ◌∷◌, sym, ap, ◌∙◌, subst}
-use Rattle.std.proofs.lemmas.List.{take_more, take_all}
-use Rattle.futures_buffered_table.proofs.Common.{Step, Mark, Legal, at_start}
-use Rattle.futures_buffered_table.specs.ScheduleLaw.{AfterEach, AnswersInOrder, EmptyIsTrue, PauseHasCause}
-use Rattle.futures_buffered_table.specs.Schedule.{IsStuckAt}
+use Rattle.futures_buffered_table.proofs.Common.{rules, get_or, take, ◌≡◌, ◌++◌, [], ◌∷◌, sym, ap, ◌∙◌, subst, take_more, take_all, Step, Mark, Legal, at_start, AfterEach, AnswersInOrder, EmptyIsTrue, PauseHasCause, IsStuckAt}
 use Rattle.futures_buffered_table.proofs.ScheduleLawLemmas.{lawful}
 use Rattle.futures_buffered_table.proofs.StepMachineLemmas.{stuck_here, whole}
 use Rattle.futures_buffered_table.proofs.schedule.steps.Goals as goal

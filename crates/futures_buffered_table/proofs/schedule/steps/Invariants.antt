@@ -1,5 +1,4 @@
-use Rattle.std.proofs.Common.{◌≡◌, ◌+◌, ◌≤◌, length, take, vec_len, vec_capacity}
-use Rattle.futures_buffered_table.specs.StepMachine.{Leads, replies_to}
+use Rattle.futures_buffered_table.proofs.Common.{◌≡◌, ◌+◌, ◌≤◌, length, take, vec_len, vec_capacity, Leads, replies_to}
 use Rattle.futures_buffered_table.proofs.schedule.steps.Given as goal
 
 abbrev pub invariant-loop-k : goal.invariant-loop-k

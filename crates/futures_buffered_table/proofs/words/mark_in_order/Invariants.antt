@@ -1,5 +1,4 @@
-use Rattle.std.proofs.Common.{◌≡◌}
-use Rattle.futures_buffered_table.specs.Beginning.{entry_before, words_in_order}
+use Rattle.futures_buffered_table.proofs.Common.{◌≡◌, entry_before, words_in_order}
 use Rattle.futures_buffered_table.proofs.words.mark_in_order.Given as goal
 
 abbrev pub invariant-slots : goal.invariant-slots

@@ -1,8 +1,4 @@
-use Rattle.std.proofs.Common.{arith, rules, subst, sym}
-use Rattle.std.proofs.lemmas.Grind.{common_steps}
-use Rattle.futures.specs.Task.{Covers}
-use Rattle.futures_buffered_unordered.specs.FuturesUnorderedBounded.{Bounded}
-use Rattle.futures_buffered_unordered.specs.PollsBounded.{unless_registered}
+use Rattle.futures_buffered_unordered.proofs.Common.{arith, rules, subst, sym, common_steps, Covers, Bounded, unless_registered}
 use Rattle.futures_buffered_unordered.proofs.MergingLemmas.{polls_item, polls_none, polls_pending, round_ends}
 use Rattle.futures_buffered_unordered.proofs.merging.poll_streams.Goals as goal
 

@@ -1,8 +1,4 @@
-use Rattle.std.proofs.Common.{IsTrue}
-use Rattle.futures.specs.Task.{Covers}
-use Rattle.futures_buffered_core.specs.SlotMap.{held_count}
-use Rattle.futures_buffered_unordered.specs.Held.{AllHeld}
-use Rattle.futures_buffered_unordered.specs.PollsBounded.{unless_registered}
+use Rattle.futures_buffered_unordered.proofs.Common.{IsTrue, Covers, held_count, AllHeld, unless_registered}
 use Rattle.futures_buffered_unordered.proofs.MergingLemmas.{GoesOn}
 use Rattle.futures_buffered_unordered.proofs.merging.poll_streams.Given as goal
 

@@ -1,5 +1,4 @@
-use Rattle.std.proofs.Common.{rules, ◌≡◌, ◌∷◌, Some, None, refl, map}
-use Rattle.futures_buffered.proofs.Common.{Ready, Pending}
+use Rattle.futures_buffered.proofs.Common.{rules, ◌≡◌, ◌∷◌, Some, None, refl, map, Ready, Pending}
 use Rattle.futures_buffered.proofs.drain.DrainTakeTurns.turn.Goals as goal
 
 pub returns-in-Pending : goal.returns-in-Pending

@@ -1,5 +1,4 @@
-use Rattle.std.proofs.Common.{rules, ◌≡◌, ◌∷◌, ◌++◌, [], None, refl, inl, inr, arith}
-use Rattle.futures_buffered.proofs.Common.{FoldsTo-push, length_push}
+use Rattle.futures_buffered.proofs.Common.{rules, ◌≡◌, ◌∷◌, ◌++◌, [], None, refl, inl, inr, arith, FoldsTo-push, length_push}
 use Rattle.futures_buffered.proofs.TurnsLemmas.{GoesOn, leaves_then}
 use Rattle.futures_buffered.proofs.turns.TakeTurns.poll_in_turns.Goals as goal
 

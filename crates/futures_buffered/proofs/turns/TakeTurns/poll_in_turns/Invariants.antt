@@ -1,5 +1,4 @@
-use Rattle.std.proofs.Common.{◌≡◌, List, length}
-use Rattle.futures_buffered.proofs.Common.{FoldsTo, Pending, TurnLeaves}
+use Rattle.futures_buffered.proofs.Common.{◌≡◌, List, length, FoldsTo, Pending, TurnLeaves}
 use Rattle.futures_buffered.proofs.TurnsLemmas.{GoesOn}
 use Rattle.futures_buffered.proofs.turns.TakeTurns.poll_in_turns.Given as goal
 

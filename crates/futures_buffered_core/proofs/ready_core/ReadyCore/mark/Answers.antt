@@ -1,4 +1,4 @@
-use Rattle.std.proofs.Common.{arith, ◌∙◌, sym}
+use Rattle.futures_buffered_core.proofs.Common.{arith, ◌∙◌, sym}
 use Rattle.futures_buffered_core.proofs.KeepsOnceLemmas.{clear_from_read}
 use Rattle.futures_buffered_core.proofs.ReadyCoreLemmas.{KeepsLinks-tail, KeepsLinks-mark, KeepsLinks-found, slots_found}
 use Rattle.futures_buffered_core.proofs.ready_core.ReadyCore.mark.Goals as goal

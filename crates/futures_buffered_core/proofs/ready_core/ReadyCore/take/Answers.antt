@@ -1,6 +1,6 @@
-use Rattle.std.proofs.Common.{◌≡◌, ◌≢◌, ◌-◌, ◌<◌, ℕ, length, get_or, set, false, arith, sym, subst, refl, ◌∙◌}
+use Rattle.futures_buffered_core.proofs.Common.{◌≡◌, ◌≢◌, ◌-◌, ◌<◌, ℕ, length, get_or, set, false, arith, sym, subst, refl, ◌∙◌, KeepsLinks}
 use Rattle.futures_buffered_core.specs.declared.ready_core.ReadyCore.TheInside.{Inside}
-use Rattle.futures_buffered_core.specs.ReadyCoreInvariant.{KeepsLinks, slots_of}
+use Rattle.futures_buffered_core.specs.ReadyCoreInvariant.{slots_of}
 use Rattle.futures_buffered_core.proofs.ReadyCoreLemmas.{KeepsLinks-moved, KeepsLinks-below, KeepsLinks-last, KeepsLinks-tail, IsServed, IsServed-next, IsServed-last, get_or_read, KeepsLinks-found, slots_found}
 use Rattle.futures_buffered_core.proofs.ready_core.ReadyCore.take.Goals.{Joined-self-stub, Joined-index-eq0, After-index-2, then-self-stub+else-first-eq0, else-self-stub, then-index-eq0+else-self-slot, else-index-eq0}
 use Rattle.futures_buffered_core.proofs.ready_core.ReadyCore.take.Goals as goal

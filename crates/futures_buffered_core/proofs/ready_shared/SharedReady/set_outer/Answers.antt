@@ -1,6 +1,4 @@
-use Rattle.std.proofs.Common.{length, ap, ◌∙◌, subst}
-use Rattle.futures_buffered_core.specs.ReadyShared.{SharedOf}
-use Rattle.futures_buffered_core.specs.WakerPlace.{PutsOrMeets, publisher_of}
+use Rattle.futures_buffered_core.proofs.Common.{length, ap, ◌∙◌, subst, SharedOf, PutsOrMeets, publisher_of}
 use Rattle.futures_buffered_core.proofs.ready_shared.SharedReady.set_outer.Goals as goal
 
 pub returns : goal.returns

@@ -1,8 +1,4 @@
-use Rattle.std.proofs.Common.{◌≡◌, ℕ, List, length, ◌++◌, ap, ◌∙◌, subst}
-use Rattle.futures_buffered_core.specs.ReadyShared.{SharedOf, lent_after}
-use Rattle.futures_buffered_core.specs.WakerPlace.{Publisher, PublishesOwn, publisher_of}
-use Rattle.futures_buffered_table.specs.declared.view.AtomicStep.{AtomicStep}
-use Rattle.futures_buffered_table.specs.Taking.{CallsAtStub, IsTaking}
+use Rattle.futures_buffered_core.proofs.Common.{◌≡◌, ℕ, List, length, ◌++◌, ap, ◌∙◌, subst, SharedOf, lent_after, Publisher, PublishesOwn, publisher_of, AtomicStep, CallsAtStub, IsTaking}
 use Rattle.futures_buffered_core.proofs.ReadySharedLemmas.{calls_shown, name_below}
 use Rattle.futures_buffered_core.proofs.ready_shared.SharedReady.take.Goals as goal
 

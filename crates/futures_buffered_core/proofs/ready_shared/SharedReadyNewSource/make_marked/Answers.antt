@@ -1,6 +1,5 @@
-use Rattle.std.proofs.Common.{ap, ◌∙◌, rules}
+use Rattle.futures_buffered_core.proofs.Common.{ap, ◌∙◌, rules, Shared}
 use Rattle.futures_buffered_table.specs.ReadyList.{ListIdentity}
-use Rattle.futures_buffered_core.specs.ReadyShared.{Shared}
 use Rattle.futures_buffered_core.proofs.MadeMarkedLemmas.{made_marked}
 use Rattle.futures_buffered_core.proofs.ready_shared.SharedReadyNewSource.make_marked.Goals as goal
 

@@ -1,8 +1,5 @@
-use Rattle.std.proofs.Common.{◌≡◌, refl, ◌∙◌, subst, arith, rules}
-use Rattle.std.specs.List.{range_with_len}
-use Rattle.std.proofs.lemmas.Fn.{FoldsTo-push}
+use Rattle.futures_buffered_core.proofs.Common.{◌≡◌, refl, ◌∙◌, subst, arith, rules, range_with_len, FoldsTo-push, MarksEach, MarksSlot}
 use Rattle.futures_buffered_core.proofs.RangeLemmas.{range_push}
-use Rattle.futures_buffered_core.specs.ReadySource.{MarksEach, MarksSlot}
 use Rattle.futures_buffered_core.proofs.ready_source.NewSource.make_marked.Goals as goal
 
 pub slots-init : goal.slots-init

@@ -1,6 +1,4 @@
-use Rattle.std.proofs.Common.{◌≡◌}
-use Rattle.std.specs.List.{range_with_len}
-use Rattle.futures_buffered_core.specs.ReadySource.{MarksEach}
+use Rattle.futures_buffered_core.proofs.Common.{◌≡◌, range_with_len, MarksEach}
 use Rattle.futures_buffered_core.proofs.ready_source.NewSource.make_marked.Given as goal
 
 abbrev pub invariant-slots : goal.invariant-slots

@@ -1,9 +1,4 @@
-use Rattle.std.proofs.Common.{◌≡◌, ◌<◌, ◌+◌, ◌++◌, ◌∷◌, [], List, length, ap, sym, ◌∙◌, arith, length-set}
-use Rattle.std.proofs.lemmas.List.{take_more_set, take_all, length-map}
-use Rattle.futures_buffered_core.specs.declared.slot_map.Place.{Place}
-use Rattle.futures_buffered_core.specs.declared.slot_map.Place.TheVariants.{Free}
-use Rattle.futures_buffered_core.specs.SlotMap.{slot_count, no_slots}
-use Rattle.futures_buffered_core.specs.SlotMapInvariant.{value_of, slots_of}
+use Rattle.futures_buffered_core.proofs.Common.{◌≡◌, ◌<◌, ◌+◌, ◌++◌, ◌∷◌, [], List, length, ap, sym, ◌∙◌, arith, length-set, take_more_set, take_all, length-map, Place, Free, slot_count, no_slots, value_of, slots_of}
 use Rattle.futures_buffered_core.proofs.SlotMapLemmas.{KeepsPlaces-new, slots_of-new, new_places_push}
 use Rattle.futures_buffered_core.proofs.slot_map.PinSlotMap.clear.Goals as goal
 

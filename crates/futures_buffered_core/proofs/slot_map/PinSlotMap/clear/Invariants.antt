@@ -1,6 +1,4 @@
-use Rattle.std.proofs.Common.{◌≡◌, take, length}
-use Rattle.futures_buffered_core.specs.SlotMap.{slot_count}
-use Rattle.futures_buffered_core.specs.SlotMapInvariant.{new_places}
+use Rattle.futures_buffered_core.proofs.Common.{◌≡◌, take, length, slot_count, new_places}
 use Rattle.futures_buffered_core.proofs.slot_map.PinSlotMap.clear.Given as goal
 
 abbrev pub invariant-loop-i : goal.invariant-loop-i

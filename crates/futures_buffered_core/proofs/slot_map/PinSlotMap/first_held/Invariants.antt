@@ -1,5 +1,4 @@
-use Rattle.std.proofs.Common.{◌≡◌, ◌<◌, ◌≤◌, ℕ, None}
-use Rattle.futures_buffered_core.specs.SlotMap.{value_in}
+use Rattle.futures_buffered_core.proofs.Common.{◌≡◌, ◌<◌, ◌≤◌, ℕ, None, value_in}
 use Rattle.futures_buffered_core.proofs.slot_map.PinSlotMap.first_held.Given as goal
 
 abbrev pub invariant-loop-i : goal.invariant-loop-i

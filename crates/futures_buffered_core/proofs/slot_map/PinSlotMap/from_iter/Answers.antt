@@ -1,5 +1,4 @@
-use Rattle.std.proofs.Common.{◌≡◌, length, map, ap, arith}
-use Rattle.futures_buffered_core.specs.declared.slot_map.Place.TheVariants.{Held}
+use Rattle.futures_buffered_core.proofs.Common.{◌≡◌, length, map, ap, arith, Held}
 use Rattle.futures_buffered_core.proofs.SlotMapLemmas.{KeepsPlaces-all, slots_of-all}
 use Rattle.futures_buffered_core.proofs.slot_map.PinSlotMap.from_iter.Goals as goal
 

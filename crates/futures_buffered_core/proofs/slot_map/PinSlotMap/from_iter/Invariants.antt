@@ -1,6 +1,5 @@
-use Rattle.std.proofs.Common.{◌≡◌, ◌≤◌, map, vec_len}
+use Rattle.futures_buffered_core.proofs.Common.{◌≡◌, ◌≤◌, map, vec_len, Held}
 use Rattle.futures_buffered_table.specs.declared.answer.TheConstants.{MAX_CAPACITY}
-use Rattle.futures_buffered_core.specs.declared.slot_map.Place.TheVariants.{Held}
 use Rattle.futures_buffered_core.proofs.slot_map.PinSlotMap.from_iter.Given as goal
 
 abbrev pub invariant-loop-item : goal.invariant-loop-item

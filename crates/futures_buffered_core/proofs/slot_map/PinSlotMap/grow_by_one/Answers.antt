@@ -1,4 +1,4 @@
-use Rattle.std.proofs.Common.{◌≡◌, length, arith}
+use Rattle.futures_buffered_core.proofs.Common.{◌≡◌, length, arith}
 use Rattle.futures_buffered_core.proofs.SlotMapLemmas.{KeepsPlaces_grow, slots_of_grow}
 use Rattle.futures_buffered_core.proofs.slot_map.PinSlotMap.grow_by_one.Goals as goal
 

@@ -1,5 +1,4 @@
-use Rattle.std.proofs.Common.{◌<◌, length, ap, ◌∙◌, arith}
-use Rattle.futures_buffered_core.specs.SlotMap.{Slots}
+use Rattle.futures_buffered_core.proofs.Common.{◌<◌, length, ap, ◌∙◌, arith, Slots}
 use Rattle.futures_buffered_core.proofs.SlotMapLemmas.{held_at_most, some_free, first_is_empty, first_read, KeepsPlaces-insert, Inserts-first}
 use Rattle.futures_buffered_core.proofs.slot_map.PinSlotMap.insert_with.Goals as goal
 

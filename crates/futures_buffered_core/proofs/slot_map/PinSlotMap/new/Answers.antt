@@ -1,4 +1,4 @@
-use Rattle.std.proofs.Common.{rules}
+use Rattle.futures_buffered_core.proofs.Common.{rules}
 use Rattle.futures_buffered_core.proofs.SlotMapLemmas.{KeepsPlaces-new, slots_of-new}
 use Rattle.futures_buffered_core.proofs.slot_map.PinSlotMap.new.Goals as goal
 

@@ -1,4 +1,4 @@
-use Rattle.std.proofs.Common.{sym, ◌∙◌}
+use Rattle.futures_buffered_core.proofs.Common.{sym, ◌∙◌}
 use Rattle.futures_buffered_core.proofs.SlotMapLemmas.{KeepsPlaces-remove, slots_of-remove, count-remove, at_some}
 use Rattle.futures_buffered_core.proofs.slot_map.PinSlotMap.take.Goals as goal
 

@@ -1,6 +1,4 @@
-use Rattle.std.proofs.Common.{None, refl, sym, ap, ◌∙◌}
-use Rattle.std.proofs.lemmas.List.{get_or-map}
-use Rattle.futures_buffered_core.specs.SlotMapInvariant.{value_of}
+use Rattle.futures_buffered_core.proofs.Common.{None, refl, sym, ap, ◌∙◌, get_or-map, value_of}
 use Rattle.futures_buffered_core.proofs.SlotMapLemmas.{held_within, KeepsPlaces-write, slots_of-write}
 use Rattle.futures_buffered_core.proofs.slot_map.PinSlotMap.value_mut.Goals as goal
 

@@ -1,4 +1,4 @@
-use Rattle.std.proofs.Common.{refl}
+use Rattle.futures_buffered_core.proofs.Common.{refl}
 use Rattle.futures_buffered_core.proofs.SlotMapLemmas.{first_held_once}
 use Rattle.futures_buffered_core.proofs.slot_map.SlotMapIterMut.next.Goals as goal
 

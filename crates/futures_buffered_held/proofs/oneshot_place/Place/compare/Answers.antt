@@ -1,5 +1,4 @@
-use Rattle.std.proofs.Common.{rules, subst}
-use Rattle.futures_buffered_held.specs.OneshotPlace.{looked}
+use Rattle.futures_buffered_held.proofs.Common.{rules, subst, looked}
 use Rattle.futures_buffered_held.proofs.OneshotPlaceLemmas.{matches, looks, answered}
 use Rattle.futures_buffered_held.proofs.oneshot_place.Place.compare.Goals as goal
 

@@ -1,7 +1,4 @@
-use Rattle.std.proofs.Common.{rules, ◌∷◌, ap, ◌∙◌}
-use Rattle.atomic_table.specs.Table.{Me, rest}
-use Rattle.futures_buffered_held.specs.declared.oneshot_place.Left.{Left}
-use Rattle.futures_buffered_held.specs.declared.oneshot_place.View.{View}
+use Rattle.futures_buffered_held.proofs.Common.{rules, ◌∷◌, ap, ◌∙◌, Me, rest, Left, View}
 use Rattle.futures_buffered_held.proofs.OneshotPlaceLemmas.{sender_looked, looks, finishes}
 use Rattle.futures_buffered_held.proofs.oneshot_place.Place.finish.Goals as goal
 

@@ -1,4 +1,4 @@
-use Rattle.std.proofs.Common.{rules}
+use Rattle.futures_buffered_held.proofs.Common.{rules}
 use Rattle.futures_buffered_held.proofs.OneshotPlaceLemmas.{looks}
 use Rattle.futures_buffered_held.proofs.oneshot_place.Place.look.Goals as goal
 

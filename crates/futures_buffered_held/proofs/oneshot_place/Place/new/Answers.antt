@@ -1,9 +1,4 @@
-use Rattle.std.proofs.Common.{rules, List, [], ◌∷◌, ◌++◌, ap, ◌∙◌, sym, subst}
-use Rattle.atomic_table.specs.Table.{opening}
-use Rattle.futures_buffered_held.specs.declared.oneshot_place.Left.{Left}
-use Rattle.futures_buffered_held.specs.declared.oneshot_place.Left.TheVariants.{Nothing}
-use Rattle.futures_buffered_held.specs.declared.oneshot_place.View.TheVariants.{Both}
-use Rattle.futures_buffered_held.specs.OneshotPlace.{HoldsOne}
+use Rattle.futures_buffered_held.proofs.Common.{rules, List, [], ◌∷◌, ◌++◌, ap, ◌∙◌, sym, subst, opening, Left, Nothing, Both, HoldsOne}
 use Rattle.futures_buffered_held.proofs.OneshotPlaceLemmas.{opens, cuts}
 use Rattle.futures_buffered_held.proofs.oneshot_place.Place.new.Goals as goal
 

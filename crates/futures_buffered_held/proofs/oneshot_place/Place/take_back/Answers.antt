@@ -1,7 +1,4 @@
-use Rattle.std.proofs.Common.{rules, ℕ, ◌∷◌, ap, sym, ◌∙◌, List}
-use Rattle.atomic_table.specs.Table.{rest}
-use Rattle.futures_buffered_held.specs.declared.oneshot_place.Left.{Left}
-use Rattle.futures_buffered_held.specs.declared.oneshot_place.Left.TheVariants.{Value}
+use Rattle.futures_buffered_held.proofs.Common.{rules, ℕ, ◌∷◌, ap, sym, ◌∙◌, List, rest, Left, Value}
 use Rattle.futures_buffered_held.proofs.oneshot_place.Place.take_back.Goals as goal
 
 pub exchange-requires : goal.exchange-requires

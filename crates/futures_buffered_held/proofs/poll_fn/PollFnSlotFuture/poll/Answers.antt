@@ -1,4 +1,4 @@
-use Rattle.std.proofs.Common.{refl}
+use Rattle.futures_buffered_held.proofs.Common.{refl}
 use denote.Param.Members.{was_Called}
 use Rattle.futures_buffered_held.proofs.poll_fn.PollFnSlotFuture.poll.Goals as goal
 

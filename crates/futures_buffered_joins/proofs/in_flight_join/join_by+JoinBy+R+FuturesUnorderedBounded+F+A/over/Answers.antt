@@ -1,5 +1,4 @@
-use Rattle.std.proofs.Common.{sym, ap, replicate, true, ◌∙◌, arith, rules}
-use Rattle.futures_buffered_in_flight.specs.InFlight.{FliesInOrder}
+use Rattle.futures_buffered_joins.proofs.Common.{sym, ap, replicate, true, ◌∙◌, arith, rules, FliesInOrder}
 use Rattle.futures_buffered_joins.proofs.InFlightJoinLemmas.{all_fly}
 use Rattle.futures_buffered_joins.proofs.JoinLemmas.{is_new}
 use Rattle.futures_buffered_joins.proofs.in_flight_join.join_by+JoinBy+R+FuturesUnorderedBounded+F+A.over.Goals as goal

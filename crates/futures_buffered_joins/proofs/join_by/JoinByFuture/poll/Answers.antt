@@ -1,4 +1,4 @@
-use Rattle.std.proofs.Common.{sym, ◌∙◌}
+use Rattle.futures_buffered_joins.proofs.Common.{sym, ◌∙◌}
 use Rattle.futures_buffered_joins.proofs.join_by.JoinByFuture.poll.Goals as goal
 
 pub fill-requires : goal.fill-requires

@@ -1,7 +1,4 @@
-use Rattle.std.proofs.Common.{rules, arith, ◌≡◌, ◌-◌, ◌++◌, ◌∷◌, [], length, set, get_or, Some, None, sym, ap, ◌∙◌, vec_capacity}
-use Rattle.std.specs.Vec.{vec_len}
-use Rattle.std.proofs.lemmas.List.{get_or_default, length-set}
-use Rattle.futures_buffered_joins.specs.Outputs.{came_by_place, from_the_first}
+use Rattle.futures_buffered_joins.proofs.Common.{rules, arith, ◌≡◌, ◌-◌, ◌++◌, ◌∷◌, [], length, set, get_or, Some, None, sym, ap, ◌∙◌, vec_capacity, vec_len, get_or_default, length-set, came_by_place, from_the_first}
 use Rattle.futures_buffered_joins.proofs.OutputsLemmas.{is_gathered, later_at, later_set, next_came, not_none}
 use Rattle.futures_buffered_joins.proofs.outputs.Outputs.gather.Goals as goal
 

@@ -1,5 +1,4 @@
-use Rattle.std.proofs.Common.{◌≡◌, length, vec_capacity}
-use Rattle.futures_buffered_joins.specs.Outputs.{came_by_place, from_the_first}
+use Rattle.futures_buffered_joins.proofs.Common.{◌≡◌, length, vec_capacity, came_by_place, from_the_first}
 use Rattle.futures_buffered_joins.proofs.outputs.Outputs.gather.Given as goal
 
 abbrev pub invariant-places : goal.invariant-places

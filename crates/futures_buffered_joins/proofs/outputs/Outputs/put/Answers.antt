@@ -1,6 +1,4 @@
-use Rattle.std.proofs.Common.{rules, arith, ◌≡◌, ◌<◌, ◌≤◌, ◌-◌, ◌++◌, ◌∷◌, [], length, set, Some, None, sym, ap, subst, ◌∙◌, vec_capacity}
-use Rattle.std.specs.Vec.{vec_len}
-use Rattle.futures_buffered_joins.specs.Outputs.{came_by_place, from_the_first, output_in}
+use Rattle.futures_buffered_joins.proofs.Common.{rules, arith, ◌≡◌, ◌<◌, ◌≤◌, ◌-◌, ◌++◌, ◌∷◌, [], length, set, Some, None, sym, ap, subst, ◌∙◌, vec_capacity, vec_len, came_by_place, from_the_first, output_in}
 use Rattle.futures_buffered_joins.proofs.OutputsLemmas.{after_gathered, comes_later, comes_next, later_below, later_set}
 use Rattle.futures_buffered_joins.proofs.outputs.Outputs.put.Goals as goal
 

@@ -1,4 +1,4 @@
-use Rattle.std.proofs.Common.{sym, arith, ◌∙◌}
+use Rattle.futures_buffered_joins.proofs.Common.{sym, arith, ◌∙◌}
 use Rattle.futures_buffered_joins.proofs.JoinLemmas.{all_filled, one_failed, one_pending}
 use Rattle.futures_buffered_joins.proofs.OutputsLemmas.{all_came}
 use Rattle.futures_buffered_joins.proofs.outputs.Places.fill.Goals as goal

@@ -1,4 +1,4 @@
-use Rattle.futures_buffered_joins.specs.Outputs.{waiting_count}
+use Rattle.futures_buffered_joins.proofs.Common.{waiting_count}
 use Rattle.futures_buffered_joins.proofs.JoinLemmas.{Filling}
 use Rattle.futures_buffered_joins.proofs.outputs.Places.fill.Given as goal
 

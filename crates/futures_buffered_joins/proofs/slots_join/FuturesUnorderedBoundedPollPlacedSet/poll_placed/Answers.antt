@@ -1,4 +1,4 @@
-use Rattle.std.proofs.Common.{rules}
+use Rattle.futures_buffered_joins.proofs.Common.{rules}
 use Rattle.futures_buffered_joins.proofs.SlotsJoinLemmas.{output_came}
 use Rattle.futures_buffered_joins.proofs.slots_join.FuturesUnorderedBoundedPollPlacedSet.poll_placed.Goals as goal
 

@@ -1,4 +1,4 @@
-use Rattle.std.proofs.Common.{sym, ap, replicate, true, ◌∙◌}
+use Rattle.futures_buffered_joins.proofs.Common.{sym, ap, replicate, true, ◌∙◌}
 use Rattle.futures_buffered_joins.proofs.SlotsJoinLemmas.{each_waits}
 use Rattle.futures_buffered_joins.proofs.slots_join.JoinBy+R+FuturesUnorderedBounded+F+S+A.over.Goals as goal
 

@@ -1,5 +1,4 @@
-use Rattle.std.proofs.Common.{◌<◌, rules, max, inl, inr}
-use Rattle.futures_buffered_ordered.proofs.Common.{MAX_CAPACITY, Draws, DrawsAndOne, SaysAtLeast, items_of, MarksShared, IsNewShared, SetRefuses, GrowingPushesNumber, IsNewGrowingQueue, QueueIsAtBound}
+use Rattle.futures_buffered_ordered.proofs.Common.{◌<◌, rules, max, inl, inr, MAX_CAPACITY, Draws, DrawsAndOne, SaysAtLeast, items_of, MarksShared, IsNewShared, SetRefuses, GrowingPushesNumber, IsNewGrowingQueue, QueueIsAtBound}
 use Rattle.futures_buffered_ordered.proofs.OrderedEntriesLemmas.{adds_one_more}
 use Rattle.futures_buffered_ordered.proofs.futures_ordered.GrowingQueue+T+A+SharedReady.from_iter.Goals as goal
 

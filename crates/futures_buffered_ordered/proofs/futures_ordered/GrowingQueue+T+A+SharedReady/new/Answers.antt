@@ -1,5 +1,4 @@
-use Rattle.std.proofs.Common.{inl, refl}
-use Rattle.futures_buffered_ordered.proofs.Common.{IsNewShared}
+use Rattle.futures_buffered_ordered.proofs.Common.{inl, refl, IsNewShared}
 use Rattle.futures_buffered_ordered.proofs.FuturesOrderedLemmas.{new_keeps}
 use Rattle.futures_buffered_ordered.proofs.futures_ordered.GrowingQueue+T+A+SharedReady.new.Goals as goal
 

@@ -1,5 +1,4 @@
-use Rattle.std.proofs.Common.{rules, ◌≡◌, ◌+◌, ◌++◌, ◌∷◌, [], length, arith}
-use Rattle.futures_buffered_ordered.proofs.Common.{length_push, MarksShared, slot_count, PushesNumber}
+use Rattle.futures_buffered_ordered.proofs.Common.{rules, ◌≡◌, ◌+◌, ◌++◌, ◌∷◌, [], length, arith, length_push, MarksShared, slot_count, PushesNumber}
 use Rattle.futures_buffered_ordered.proofs.FuturesOrderedBoundedLemmas.{one_came}
 use Rattle.futures_buffered_ordered.proofs.OrderedEntriesLemmas.{adds_one_more, one_entry_more}
 use Rattle.futures_buffered_ordered.proofs.futures_ordered_bounded.BoundedQueue+T+A+SharedReady.from_iter.Goals as goal

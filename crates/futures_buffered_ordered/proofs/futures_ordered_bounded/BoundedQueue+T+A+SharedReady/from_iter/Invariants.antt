@@ -1,5 +1,4 @@
-use Rattle.std.proofs.Common.{◌≡◌, ◌++◌, length}
-use Rattle.futures_buffered_ordered.proofs.Common.{MarksShared, slot_count, AddsEachBack, PushesNumber}
+use Rattle.futures_buffered_ordered.proofs.Common.{◌≡◌, ◌++◌, length, MarksShared, slot_count, AddsEachBack, PushesNumber}
 use Rattle.futures_buffered_ordered.proofs.futures_ordered_bounded.BoundedQueue+T+A+SharedReady.from_iter.Given as goal
 
 abbrev pub invariant-loop-item : goal.invariant-loop-item

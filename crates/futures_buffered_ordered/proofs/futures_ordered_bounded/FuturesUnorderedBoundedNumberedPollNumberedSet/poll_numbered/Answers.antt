@@ -1,4 +1,4 @@
-use Rattle.futures_buffered_unordered.proofs.FuturesUnorderedBoundedLemmas.{poll_counted}
+use Rattle.futures_buffered_ordered.proofs.Common.{poll_counted}
 use Rattle.futures_buffered_ordered.proofs.FuturesOrderedBoundedLemmas.{set_covered, set_empty}
 use Rattle.futures_buffered_ordered.proofs.NumberedLemmas.{numbers_polled}
 use Rattle.futures_buffered_ordered.proofs.futures_ordered_bounded.FuturesUnorderedBoundedNumberedPollNumberedSet.poll_numbered.Goals as goal

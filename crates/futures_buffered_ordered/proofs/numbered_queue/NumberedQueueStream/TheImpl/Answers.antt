@@ -1,4 +1,4 @@
-use Rattle.std.proofs.Common.{arith}
+use Rattle.futures_buffered_ordered.proofs.Common.{arith}
 use Rattle.futures_buffered_ordered.proofs.OrderedStreamLemmas.{queue_stream}
 use Rattle.futures_buffered_ordered.proofs.numbered_queue.NumberedQueueStream.TheImpl.Goals as goal
 

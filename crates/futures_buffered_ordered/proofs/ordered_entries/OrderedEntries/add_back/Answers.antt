@@ -1,5 +1,4 @@
-use Rattle.futures_buffered_ordered.proofs.Common.{common_steps, err_from_is_err_and, deque_capacity, AddsBack, numbered_from}
-use Rattle.std.proofs.Common.{rules, ◌≡◌, ◌+◌, ◌++◌, [], ◌∷◌, ◌%◌, ◌^◌, List, Option, None, length, refl, ap, arith, ◌∙◌}
+use Rattle.futures_buffered_ordered.proofs.Common.{common_steps, err_from_is_err_and, deque_capacity, AddsBack, numbered_from, rules, ◌≡◌, ◌+◌, ◌++◌, [], ◌∷◌, ◌%◌, ◌^◌, List, Option, None, length, refl, ap, arith, ◌∙◌}
 use Rattle.futures_buffered_ordered.proofs.OrderedEntriesInvariantLemmas.{added_back, not_added}
 use Rattle.futures_buffered_ordered.proofs.ordered_entries.OrderedEntries.add_back.Goals as goal
 

@@ -1,5 +1,4 @@
-use Rattle.std.proofs.Common.{rules, ◌≡◌, ◌+◌, ◌∷◌, ◌-◌, ◌%◌, ◌^◌, List, Option, None, refl, ap, arith, ◌∙◌}
-use Rattle.futures_buffered_ordered.proofs.Common.{err_from_is_err_and, deque_capacity, AddsFront, numbered_from}
+use Rattle.futures_buffered_ordered.proofs.Common.{rules, ◌≡◌, ◌+◌, ◌∷◌, ◌-◌, ◌%◌, ◌^◌, List, Option, None, refl, ap, arith, ◌∙◌, err_from_is_err_and, deque_capacity, AddsFront, numbered_from}
 use Rattle.futures_buffered_ordered.proofs.OrderedEntriesInvariantLemmas.{added_front, not_added}
 use Rattle.futures_buffered_ordered.proofs.ordered_entries.OrderedEntries.add_front.Goals as goal
 

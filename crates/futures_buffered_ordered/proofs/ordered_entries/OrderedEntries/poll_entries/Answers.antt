@@ -1,5 +1,4 @@
-use Rattle.std.proofs.Common.{rules, ◌++◌, [], ◌∷◌, sym, subst, arith, ◌∙◌}
-use Rattle.futures_buffered_ordered.proofs.Common.{FoldsTo-push, length_push, BesideTask, SetYields, with_task}
+use Rattle.futures_buffered_ordered.proofs.Common.{rules, ◌++◌, [], ◌∷◌, sym, subst, arith, ◌∙◌, FoldsTo-push, length_push, BesideTask, SetYields, with_task}
 use Rattle.futures_buffered_ordered.proofs.OrderedEntriesLemmas.{last_from}
 use Rattle.futures_buffered_ordered.proofs.ordered_entries.OrderedEntries.poll_entries.Goals as goal
 

@@ -1,5 +1,4 @@
-use Rattle.std.proofs.Common.{◌≡◌, ◌+◌, ℕ, List, length}
-use Rattle.futures_buffered_ordered.proofs.Common.{FoldsTo, Keeps, BesideTask, SetYields, with_task, IsNumbered}
+use Rattle.futures_buffered_ordered.proofs.Common.{◌≡◌, ◌+◌, ℕ, List, length, FoldsTo, Keeps, BesideTask, SetYields, with_task, IsNumbered}
 use Rattle.futures_buffered_ordered.proofs.ordered_entries.OrderedEntries.poll_entries.Given as goal
 
 abbrev pub invariant-loop-self : goal.invariant-loop-self

@@ -1,5 +1,4 @@
-use Rattle.std.proofs.Common.{rules, ◌≡◌, ◌∷◌, ◌+◌, ◌%◌, ◌^◌, List, Option, Some, refl, ap, arith, ◌∙◌}
-use Rattle.futures_buffered_ordered.proofs.Common.{Entry, Kept, numbered_from}
+use Rattle.futures_buffered_ordered.proofs.Common.{rules, ◌≡◌, ◌∷◌, ◌+◌, ◌%◌, ◌^◌, List, Option, Some, refl, ap, arith, ◌∙◌, Entry, Kept, numbered_from}
 use Rattle.futures_buffered_ordered.proofs.OrderedEntriesInvariantLemmas.{numbered-same, popped_is_numbered}
 use Rattle.futures_buffered_ordered.proofs.ordered_entries.OrderedEntries.pop_kept.Goals as goal
 

@@ -1,4 +1,5 @@
-use Rattle.std.proofs.Common.{arith, sym, ap, ◌∙◌, None}
+use Rattle.futures_buffered_place.proofs.Common.{arith, sym, ap, ◌∙◌}
+use Rattle.std.proofs.Common.{None}
 use Rattle.futures_buffered_place.proofs.PlaceLemmas.{leaves, written}
 use Rattle.futures_buffered_place.proofs.place.Place.empty.Goals as goal
 

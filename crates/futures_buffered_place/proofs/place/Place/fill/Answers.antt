@@ -1,4 +1,5 @@
-use Rattle.std.proofs.Common.{arith, sym, ap, ◌∙◌, Some}
+use Rattle.futures_buffered_place.proofs.Common.{arith, sym, ap, ◌∙◌}
+use Rattle.std.proofs.Common.{Some}
 use Rattle.futures_buffered_place.proofs.PlaceLemmas.{puts, written}
 use Rattle.futures_buffered_place.proofs.place.Place.fill.Goals as goal
 

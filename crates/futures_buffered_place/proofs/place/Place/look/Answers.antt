@@ -1,4 +1,4 @@
-use Rattle.std.proofs.Common.{arith, sym, ◌∙◌}
+use Rattle.futures_buffered_place.proofs.Common.{arith, sym, ◌∙◌}
 use Rattle.futures_buffered_place.proofs.PlaceLemmas.{looks_on}
 use Rattle.futures_buffered_place.proofs.place.Place.look.Goals as goal
 

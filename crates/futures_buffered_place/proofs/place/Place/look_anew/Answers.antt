@@ -1,4 +1,4 @@
-use Rattle.std.proofs.Common.{arith}
+use Rattle.futures_buffered_place.proofs.Common.{arith}
 use Rattle.futures_buffered_place.proofs.PlaceLemmas.{comes}
 use Rattle.futures_buffered_place.proofs.place.Place.look_anew.Goals as goal
 

@@ -1,7 +1,5 @@
-use Rattle.std.proofs.Common.{◌∙◌, true, sym, subst}
+use Rattle.futures_buffered_place.proofs.Common.{◌∙◌, true, sym, subst, Busy, PutsBy}
 use Rattle.futures_buffered_place.proofs.PlaceLemmas.{won_slot}
-use Rattle.futures_buffered_place.specs.declared.place.Put.TheVariants.{Busy}
-use Rattle.futures_buffered_place.specs.Place.{PutsBy}
 use Rattle.futures_buffered_place.proofs.ShapeLemmas.{alone_else, filled_alone, filled_kept, met_it, met_other}
 use Rattle.futures_buffered_place.proofs.place.Place.put_alone.Goals as goal
 use Rattle.futures_buffered_place.proofs.place.Place.put_alone.Goals.{then-found-ne-PRESENT-via-then-found-ne-PRESENT, then-found-ne-PRESENT-via-else-found-ne-PRESENT+then-win-ne-PRESENT}

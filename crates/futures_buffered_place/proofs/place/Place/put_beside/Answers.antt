@@ -1,7 +1,5 @@
-use Rattle.std.proofs.Common.{◌∙◌, false, sym, subst}
+use Rattle.futures_buffered_place.proofs.Common.{◌∙◌, false, sym, subst, Busy, PutsBy}
 use Rattle.futures_buffered_place.proofs.PlaceLemmas.{won_slot}
-use Rattle.futures_buffered_place.specs.declared.place.Put.TheVariants.{Busy}
-use Rattle.futures_buffered_place.specs.Place.{PutsBy}
 use Rattle.futures_buffered_place.proofs.ShapeLemmas.{filled_free, filled_kept, met_free, met_it, met_other}
 use Rattle.futures_buffered_place.proofs.place.Place.put_beside.Goals as goal
 use Rattle.futures_buffered_place.proofs.place.Place.put_beside.Goals.{then-found-ne-PRESENT-via-then-found-ne-PRESENT, then-found-ne-PRESENT-via-else-found-ne-PRESENT+then-win-ne-PRESENT}

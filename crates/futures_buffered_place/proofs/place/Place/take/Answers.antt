@@ -1,7 +1,5 @@
-use Rattle.std.proofs.Common.{◌∙◌, sym, subst}
-use Rattle.std.specs.Prelude.{None}
+use Rattle.futures_buffered_place.proofs.Common.{◌∙◌, sym, subst, None, TakesBy}
 use Rattle.futures_buffered_place.proofs.PlaceLemmas.{won_slot}
-use Rattle.futures_buffered_place.specs.Place.{TakesBy}
 use Rattle.futures_buffered_place.proofs.ShapeLemmas.{missed_it, missed_none, took}
 use Rattle.futures_buffered_place.proofs.place.Place.take.Goals as goal
 use Rattle.futures_buffered_place.proofs.place.Place.take.Goals.{then-look-ne-PRESENT-via-then-look-ne-PRESENT, then-look-ne-PRESENT-via-else-look-ne-PRESENT+then-win-ne-PRESENT}

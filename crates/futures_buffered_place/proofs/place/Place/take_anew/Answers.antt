@@ -1,8 +1,5 @@
-use Rattle.std.proofs.Common.{◌∙◌, refl, sym, subst}
-use Rattle.std.specs.Prelude.{None}
+use Rattle.futures_buffered_place.proofs.Common.{◌∙◌, refl, sym, subst, None, new_taker, TakesOut, no_history}
 use Rattle.futures_buffered_place.proofs.PlaceLemmas.{won_slot}
-use Rattle.futures_buffered_place.specs.Place.{new_taker}
-use Rattle.futures_buffered_place.specs.History.{TakesOut, no_history}
 use Rattle.futures_buffered_place.proofs.ShapeLemmas.{by_steps, missed_it, missed_none, took}
 use Rattle.futures_buffered_place.proofs.place.Place.take_anew.Goals as goal
 use Rattle.futures_buffered_place.proofs.place.Place.take_anew.Goals.{then-found-ne-PRESENT-via-then-found-ne-PRESENT, then-found-ne-PRESENT-via-else-found-ne-PRESENT+then-win-ne-PRESENT}

@@ -1,4 +1,4 @@
-use Rattle.std.proofs.Common.{arith, sym, ap, ◌∙◌}
+use Rattle.futures_buffered_place.proofs.Common.{arith, sym, ap, ◌∙◌}
 use Rattle.futures_buffered_place.proofs.PlaceLemmas.{splits}
 use Rattle.futures_buffered_place.proofs.place.PutSeat.beside.Goals as goal
 

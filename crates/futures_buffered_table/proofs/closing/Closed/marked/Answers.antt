@@ -1,7 +1,4 @@
-use Rattle.std.proofs.Common.{◌≡◌, ◌<◌, List, ℕ, ap, sym, ◌∙◌, arith}
-use Rattle.std.specs.Mem.Slots.{slots_items}
-use Rattle.futures_buffered_table.specs.Words.{mark}
-use Rattle.futures_buffered_table.specs.Closing.{ClosedWords}
+use Rattle.futures_buffered_table.proofs.Common.{◌≡◌, ◌<◌, List, ℕ, ap, sym, ◌∙◌, arith, slots_items, mark, ClosedWords}
 use Rattle.futures_buffered_table.proofs.ClosingLemmas.{word_is, marked_is}
 use Rattle.futures_buffered_table.proofs.closing.Closed.marked.Goals as goal
 

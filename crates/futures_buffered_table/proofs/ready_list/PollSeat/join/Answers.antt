@@ -1,5 +1,4 @@
-use Rattle.std.proofs.Common.{sym, ap, ◌∙◌, arith}
-use Rattle.futures_buffered_table.proofs.Common.{is_unmark, unmarks, ListIdentity, Poller, Waker}
+use Rattle.futures_buffered_table.proofs.Common.{sym, ap, ◌∙◌, arith, is_unmark, unmarks, ListIdentity, Poller, Waker}
 use Rattle.futures_buffered_table.proofs.RuleLemmas.{joins}
 use Rattle.futures_buffered_table.proofs.RowLemmas.{total-append}
 use Rattle.futures_buffered_table.proofs.ready_list.PollSeat.join.Goals as goal

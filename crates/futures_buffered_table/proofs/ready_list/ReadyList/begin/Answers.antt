@@ -1,5 +1,4 @@
-use Rattle.std.proofs.Common.{rules, arith, ◌≡◌, ◌+◌, ap, ◌∙◌}
-use Rattle.futures_buffered_table.specs.declared.rule.ListKey.{ListKey}
+use Rattle.futures_buffered_table.proofs.Common.{rules, arith, ◌≡◌, ◌+◌, ap, ◌∙◌, ListKey}
 use Rattle.futures_buffered_table.proofs.BeginningLemmas.{begun_poller, begun_unmarks_none, begun_waker, first_wide, hands_on}
 use Rattle.futures_buffered_table.proofs.ready_list.ReadyList.begin.Goals as goal
 

@@ -1,7 +1,5 @@
-use Rattle.std.proofs.Common.{rules, ◌≡◌, arith}
-use Rattle.futures_buffered_table.specs.Beginning.{words_at_first}
+use Rattle.futures_buffered_table.proofs.Common.{rules, ◌≡◌, arith, words_at_first, take-replicate}
 use Rattle.futures_buffered_table.proofs.BeginningLemmas.{begins}
-use Rattle.std.proofs.lemmas.List.{take-replicate}
 use Rattle.futures_buffered_table.proofs.ready_list.ReadyList.begin_table.Goals as goal
 
 pub of_words-requires : goal.of_words-requires

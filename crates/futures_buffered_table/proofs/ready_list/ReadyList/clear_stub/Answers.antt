@@ -1,5 +1,4 @@
-use Rattle.std.proofs.Common.{refl, arith}
-use Rattle.futures_buffered_table.proofs.Common.{Last, Polls}
+use Rattle.futures_buffered_table.proofs.Common.{refl, arith, Last, Polls}
 use Rattle.futures_buffered_table.proofs.ReadyListLemmas.{may_store}
 use Rattle.futures_buffered_table.proofs.ready_list.ReadyList.clear_stub.Goals as goal
 

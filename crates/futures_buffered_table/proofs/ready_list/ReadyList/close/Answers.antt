@@ -1,10 +1,7 @@
-use Rattle.std.proofs.Common.{◌≡◌, ◌++◌, [], All, refl, sym, ap, ◌∙◌, subst}
-use Rattle.futures_buffered_table.proofs.Common.{mark, Waker}
-use Rattle.futures_buffered_table.specs.Closing.{steps_of}
+use Rattle.futures_buffered_table.proofs.Common.{◌≡◌, ◌++◌, [], All, refl, sym, ap, ◌∙◌, subst, mark, Waker, steps_of, nil_from_length}
 use Rattle.futures_buffered_table.proofs.ClosingLemmas.{joined_on, joined_all, handed_in}
 use Rattle.futures_buffered_table.proofs.ready_list.ReadyList.close.Goals as goal
 use Rattle.std.proofs.lemmas.List.Elements.{All-head, All-tail}
-use Rattle.std.proofs.lemmas.List.{nil_from_length}
 
 pub loop-seat-init : goal.loop-seat-init
 loop-seat-init c = let same = c.into_iter-seat-iterator.ensures.into_iter_gives.0 in

@@ -1,6 +1,4 @@
-use Rattle.std.proofs.Common.{◌≡◌, ◌++◌, ℕ, All}
-use Rattle.futures_buffered_table.specs.Closing.{steps_of}
-use Rattle.futures_buffered_table.specs.Tally.{unmarks}
+use Rattle.futures_buffered_table.proofs.Common.{◌≡◌, ◌++◌, ℕ, All, steps_of, unmarks}
 use Rattle.futures_buffered_table.proofs.ready_list.ReadyList.close.Given as goal
 
 abbrev pub invariant-loop-seat : goal.invariant-loop-seat

@@ -1,6 +1,4 @@
-use Rattle.std.proofs.Common.{◌≡◌, ◌<◌, ◌≤◌, ◌+◌, List, ℕ, ap, sym, ◌∙◌, subst}
-use Rattle.std.specs.Mem.Slots.{slots_items}
-use Rattle.futures_buffered_table.proofs.Common.{AtomicStep, View, mark, unmarks, wins, Whereabouts, ListIdentity, Poller}
+use Rattle.futures_buffered_table.proofs.Common.{◌≡◌, ◌<◌, ◌≤◌, ◌+◌, List, ℕ, ap, sym, ◌∙◌, subst, slots_items, AtomicStep, View, mark, unmarks, wins, Whereabouts, ListIdentity, Poller}
 use Rattle.futures_buffered_table.proofs.ClosingLemmas.{ends, ends_placed}
 use Rattle.futures_buffered_table.proofs.ready_list.ReadyList.close_seat.Goals as goal
 

@@ -1,5 +1,4 @@
-use Rattle.std.proofs.Common.{◌+◌, refl, arith}
-use Rattle.futures_buffered_table.proofs.Common.{StubPut, Polls}
+use Rattle.futures_buffered_table.proofs.Common.{◌+◌, refl, arith, StubPut, Polls}
 use Rattle.futures_buffered_table.proofs.ReadyListLemmas.{may_store}
 use Rattle.futures_buffered_table.proofs.ready_list.ReadyList.link_stub.Goals as goal
 

@@ -1,5 +1,4 @@
-use Rattle.std.proofs.Common.{refl, arith}
-use Rattle.futures_buffered_table.proofs.Common.{NoNext, Polls}
+use Rattle.futures_buffered_table.proofs.Common.{refl, arith, NoNext, Polls}
 use Rattle.futures_buffered_table.proofs.ReadyListLemmas.{may_step}
 use Rattle.futures_buffered_table.proofs.ready_list.ReadyList.read_tail.Goals as goal
 

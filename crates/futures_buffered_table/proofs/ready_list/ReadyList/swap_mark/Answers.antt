@@ -1,5 +1,4 @@
-use Rattle.std.proofs.Common.{refl, arith}
-use Rattle.futures_buffered_table.specs.declared.view.Role.TheVariants.{Idle}
+use Rattle.futures_buffered_table.proofs.Common.{refl, arith, Idle}
 use Rattle.futures_buffered_table.proofs.ReadyListLemmas.{may_step}
 use Rattle.futures_buffered_table.proofs.ready_list.ReadyList.swap_mark.Goals as goal
 

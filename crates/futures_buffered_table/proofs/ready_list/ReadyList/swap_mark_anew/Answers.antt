@@ -1,5 +1,4 @@
-use Rattle.std.proofs.Common.{ℕ, ◌<◌, arith, ap}
-use Rattle.futures_buffered_table.specs.ReadyList.{ListIdentity}
+use Rattle.futures_buffered_table.proofs.Common.{ℕ, ◌<◌, arith, ap, ListIdentity}
 use Rattle.futures_buffered_table.proofs.RuleLemmas.{arrives}
 use Rattle.futures_buffered_table.proofs.ready_list.ReadyList.swap_mark_anew.Goals as goal
 

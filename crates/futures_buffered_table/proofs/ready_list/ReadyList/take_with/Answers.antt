@@ -1,5 +1,4 @@
-use Rattle.std.proofs.Common.{ap, arith}
-use Rattle.futures_buffered_table.specs.ReadyList.{Poller}
+use Rattle.futures_buffered_table.proofs.Common.{ap, arith, Poller}
 use Rattle.futures_buffered_table.proofs.ReadyListLemmas.{in_role, seat_kept}
 use Rattle.futures_buffered_table.proofs.ready_list.ReadyList.take_with.Goals as goal
 

@@ -1,5 +1,4 @@
-use Rattle.std.proofs.Common.{arith, ℕ, [], ◌∷◌, ◌++◌, refl, ap, ◌∙◌, subst}
-use Rattle.futures_buffered_table.proofs.Common.{Fresh, Already, MarkSwap, Role, AddsSteps, IsInRole, Waker}
+use Rattle.futures_buffered_table.proofs.Common.{arith, ℕ, [], ◌∷◌, ◌++◌, refl, ap, ◌∙◌, subst, Fresh, Already, MarkSwap, Role, AddsSteps, IsInRole, Waker}
 use Rattle.futures_buffered_table.proofs.ReadyListLemmas.{in_role, seat_kept}
 use Rattle.futures_buffered_table.proofs.WakingLemmas.{adds_fresh, woken, still_idle}
 use Rattle.futures_buffered_table.proofs.ready_list.ReadyList.wake.Goals as goal

@@ -1,5 +1,4 @@
-use Rattle.std.proofs.Common.{sym, ap, ◌∙◌, arith}
-use Rattle.futures_buffered_table.specs.ReadyList.{ListIdentity, Waker}
+use Rattle.futures_buffered_table.proofs.Common.{sym, ap, ◌∙◌, arith, ListIdentity, Waker}
 use Rattle.futures_buffered_table.proofs.RuleLemmas.{splits}
 use Rattle.futures_buffered_table.proofs.ready_list.WakeSeat.split.Goals as goal
 

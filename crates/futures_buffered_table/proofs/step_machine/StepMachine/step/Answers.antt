@@ -1,5 +1,4 @@
-use Rattle.std.proofs.Common.{rules, subst}
-use Rattle.futures_buffered_table.specs.StepMachine.{Machine, CanMake, MakesStep, LeadsOn, IsLedTo}
+use Rattle.futures_buffered_table.proofs.Common.{rules, subst, Machine, CanMake, MakesStep, LeadsOn, IsLedTo}
 use Rattle.futures_buffered_table.proofs.StepMachineLemmas.{has_read, has_found, may_touch, may_put, word_low, now, makes_step, leads_there, keeps_now, places_slots}
 use Rattle.futures_buffered_table.proofs.step_machine.StepMachine.step.Goals as goal
 

@@ -1,5 +1,4 @@
-use Rattle.std.proofs.Common.{◌≡◌, true, false, rules}
-use Rattle.futures_buffered_unordered.specs.PollsBounded.{unless_registered}
+use Rattle.futures_buffered_unordered.proofs.Common.{◌≡◌, true, false, rules, unless_registered}
 use Rattle.futures_buffered_unordered.proofs.FuturesUnorderedStreamLemmas.{keeps_polled, unless_waits}
 use Rattle.futures_buffered_unordered.proofs.PollsBoundedLemmas.{poll_leaves}
 use Rattle.futures_buffered_unordered.proofs.ask_group.ByRuleAskGroupOfFutures.ask.Goals as goal

@@ -1,4 +1,4 @@
-use Rattle.std.proofs.Common.{arith}
+use Rattle.futures_buffered_unordered.proofs.Common.{arith}
 use Rattle.futures_buffered_unordered.proofs.PollsBoundedLemmas.{answers_as_stream}
 use Rattle.futures_buffered_unordered.proofs.bounded_stream.FuturesUnorderedBoundedStream.TheImpl.Goals as goal
 

@@ -1,4 +1,4 @@
-use Rattle.std.proofs.Common.{rules}
+use Rattle.futures_buffered_unordered.proofs.Common.{rules}
 use Rattle.futures_buffered_unordered.proofs.futures_unordered.FuturesUnordered+F+S.over.Goals as goal
 
 pub returns : goal.returns

@@ -1,4 +1,4 @@
-use Rattle.std.proofs.Common.{arith, rules}
+use Rattle.futures_buffered_unordered.proofs.Common.{arith, rules}
 use Rattle.futures_buffered_unordered.proofs.FuturesUnorderedLemmas.{new_without, new_with}
 use Rattle.futures_buffered_unordered.proofs.futures_unordered.FuturesUnordered+F+S.over_limit.Goals.{then-n-gt0+in_ok-add_group, else-n-gt0}
 use Rattle.futures_buffered_unordered.proofs.futures_unordered.FuturesUnordered+F+S.over_limit.Goals as goal

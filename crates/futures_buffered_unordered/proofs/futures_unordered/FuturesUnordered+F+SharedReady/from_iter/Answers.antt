@@ -1,9 +1,5 @@
-use Rattle.std.proofs.Common.{◌≡◌, ◌<◌, Err, rules, subst, inl, inr}
-use Rattle.futures_buffered_table.specs.declared.answer.NewFault.TheVariants.{TooLarge}
-use Rattle.futures_buffered_table.specs.declared.answer.TheConstants.{MAX_CAPACITY}
-use Rattle.futures_buffered_core.specs.Drawn.{SaysAtLeast, items_of}
+use Rattle.futures_buffered_unordered.proofs.Common.{◌≡◌, ◌<◌, Err, rules, subst, inl, inr, TooLarge, MAX_CAPACITY, SaysAtLeast, items_of, IsNewGrowing}
 use Rattle.futures_buffered_core.specs.ReadyShared.{IsNewShared}
-use Rattle.futures_buffered_unordered.specs.FuturesUnordered.{IsNewGrowing}
 use Rattle.futures_buffered_unordered.proofs.ExtendedLemmas.{draws_of, draws_and_one_of}
 use Rattle.futures_buffered_unordered.proofs.futures_unordered.FuturesUnordered+F+SharedReady.from_iter.Goals as goal
 

@@ -1,6 +1,4 @@
-use Rattle.std.proofs.Common.{rules}
-use Rattle.std.proofs.lemmas.Fn.{FoldsTo-push}
-use Rattle.futures_buffered_unordered.specs.FuturesUnordered.{GrowingPushes}
+use Rattle.futures_buffered_unordered.proofs.Common.{rules, FoldsTo-push, GrowingPushes}
 use Rattle.futures_buffered_unordered.proofs.futures_unordered.GrowingSet.add_each.Goals as goal
 
 pub loop-item-preserved : goal.loop-item-preserved

@@ -1,8 +1,4 @@
-use Rattle.std.proofs.Common.{◌≡◌, ◌∷◌, ◌++◌, [], List, sym, ap, subst, ◌∙◌}
-use Rattle.futures_buffered_unordered.specs.FuturesUnorderedBounded.{Bounded, IsNewSet}
-use Rattle.futures_buffered_unordered.specs.FuturesUnordered.{Growing, spare_places}
-use Rattle.std.specs.List.{All}
-use Rattle.futures_buffered_core.specs.ReadySource.{WaitsAlike}
+use Rattle.futures_buffered_unordered.proofs.Common.{◌≡◌, ◌∷◌, ◌++◌, [], List, sym, ap, subst, ◌∙◌, Bounded, IsNewSet, Growing, spare_places, All, WaitsAlike}
 use Rattle.futures_buffered_unordered.proofs.FuturesUnorderedLemmas.{keeps_added}
 use Rattle.futures_buffered_unordered.proofs.futures_unordered.GrowingSet.add_group.Goals as goal
 

@@ -1,9 +1,4 @@
-use Rattle.std.proofs.Common.{rules, refl, arith}
-use Rattle.std.proofs.lemmas.Grind.{common_steps}
-use Rattle.std.proofs.lemmas.List.Elements.{All-set}
-use Rattle.futures.specs.Task.{Covers}
-use Rattle.futures_buffered_unordered.specs.Held.{AllHeld}
-use Rattle.futures_buffered_unordered.specs.FuturesUnorderedBounded.{Bounded}
+use Rattle.futures_buffered_unordered.proofs.Common.{rules, refl, arith, common_steps, All-set, Covers, AllHeld, Bounded}
 use Rattle.futures_buffered_unordered.proofs.GroupsStepLemmas.{one_some, one_pending, one_last, one_left, All-removed}
 use Rattle.futures_buffered_unordered.proofs.FuturesUnorderedInvariantLemmas.{keeps_pending, keeps_asked, keeps_ended_last, keeps_ended, covered_asked, still_asked, covered_at}
 use Rattle.futures_buffered_unordered.proofs.futures_unordered.GrowingSet.ask_one.Goals as goal

@@ -1,8 +1,4 @@
-use Rattle.futures_buffered_core.specs.Drawn.{items_of}
-use Rattle.std.proofs.Common.{◌≡◌, rules}
-use Rattle.std.proofs.lemmas.Fn.{FoldsTo-push}
-use Rattle.futures_buffered_unordered.specs.Extended.{ExtendsUntil}
-use Rattle.futures_buffered_unordered.specs.FuturesUnordered.{Growing, GrowingPushes, SetMayRefuse}
+use Rattle.futures_buffered_unordered.proofs.Common.{items_of, ◌≡◌, rules, FoldsTo-push, ExtendsUntil, Growing, GrowingPushes, SetMayRefuse}
 use Rattle.futures_buffered_unordered.proofs.futures_unordered.GrowingSet.extend.Goals as goal
 
 pub loop-item-preserved : goal.loop-item-preserved

@@ -1,4 +1,4 @@
-use Rattle.futures_buffered_unordered.specs.FuturesUnordered.{PushesEach}
+use Rattle.futures_buffered_unordered.proofs.Common.{PushesEach}
 use Rattle.futures_buffered_unordered.proofs.futures_unordered.GrowingSet.extend.Given as goal
 
 abbrev pub invariant-loop-item : goal.invariant-loop-item

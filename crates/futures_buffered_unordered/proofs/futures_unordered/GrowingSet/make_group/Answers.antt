@@ -1,5 +1,4 @@
-use Rattle.std.proofs.Common.{arith}
-use Rattle.std.proofs.lemmas.Grind.{common_steps}
+use Rattle.futures_buffered_unordered.proofs.Common.{arith, common_steps}
 use Rattle.futures_buffered_unordered.proofs.futures_unordered.GrowingSet.make_group.Goals as goal
 
 pub invariant_of-self : goal.invariant_of-self

@@ -1,5 +1,4 @@
-use Rattle.std.proofs.Common.{true, false, is_some, arith, subst, ap, sym, refl, length, ◌∙◌, true≢false}
-use Rattle.futures_buffered_unordered.specs.FuturesUnordered.{Growing}
+use Rattle.futures_buffered_unordered.proofs.Common.{true, false, is_some, arith, subst, ap, sym, refl, length, ◌∙◌, true≢false, Growing}
 use Rattle.futures_buffered_unordered.proofs.GroupsStepLemmas.{GoesOn, goes_end, goes_ended, goes_output, goes_pending, goes_start, one_still_some}
 use Rattle.futures_buffered_unordered.proofs.futures_unordered.GrowingSet.poll_groups.Goals.{in-Pending, in-Ready+in_default}
 use Rattle.futures_buffered_unordered.proofs.futures_unordered.GrowingSet.poll_groups.Goals as goal

@@ -1,6 +1,4 @@
-use Rattle.std.proofs.Common.{◌≡◌, ◌<◌, length, IsTrue}
-use Rattle.futures.specs.Task.{Keeps}
-use Rattle.futures_buffered_unordered.specs.FuturesUnordered.{EachHeld, EachCovered}
+use Rattle.futures_buffered_unordered.proofs.Common.{◌≡◌, ◌<◌, length, IsTrue, Keeps, EachHeld, EachCovered}
 use Rattle.futures_buffered_unordered.proofs.GroupsStepLemmas.{GoesOn}
 use Rattle.futures_buffered_unordered.proofs.futures_unordered.GrowingSet.poll_groups.Given as goal
 

@@ -1,7 +1,5 @@
-use Rattle.std.proofs.Common.{◌≡◌, ◌+◌, sym, subst, ap, arith, ◌∙◌}
-use Rattle.futures_buffered_unordered.specs.FuturesUnordered.{Growing, GrowingPushes, held_in_all}
+use Rattle.futures_buffered_unordered.proofs.Common.{◌≡◌, ◌+◌, sym, subst, ap, arith, ◌∙◌, Growing, GrowingPushes, held_in_all, AddsGroup}
 use Rattle.futures_buffered_unordered.proofs.FuturesUnorderedLemmas.{pushes_new, added_counts}
-use Rattle.futures_buffered_unordered.specs.FuturesUnorderedInvariant.{AddsGroup}
 use Rattle.futures_buffered_unordered.proofs.futures_unordered.GrowingSet.push.Goals.{then-spare_places-eq0+in-Ok, else-spare_places-eq0}
 use Rattle.futures_buffered_unordered.proofs.futures_unordered.GrowingSet.push.Goals as goal
 

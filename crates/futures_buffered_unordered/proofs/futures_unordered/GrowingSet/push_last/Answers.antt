@@ -1,10 +1,5 @@
-use Rattle.std.proofs.Common.{◌≡◌, ◌+◌, ◌-◌, ◌<◌, length, sym, ap, subst, arith}
-use Rattle.std.proofs.lemmas.Grind.{common_steps}
-use Rattle.futures_buffered_core.specs.SlotMap.{slot_count}
-use Rattle.futures_buffered_unordered.specs.FuturesUnorderedBounded.{Bounded, held_in}
-use Rattle.futures_buffered_unordered.specs.FuturesUnordered.{Growing, held_in_all, spare_places}
+use Rattle.futures_buffered_unordered.proofs.Common.{◌≡◌, ◌+◌, ◌-◌, ◌<◌, length, sym, ap, subst, arith, common_steps, slot_count, Bounded, held_in, Growing, held_in_all, spare_places, SameKind}
 use Rattle.futures_buffered_unordered.proofs.FuturesUnorderedLemmas.{spare_last, spare_some, keeps_grown, pushes_last}
-use Rattle.futures_buffered_unordered.specs.FuturesUnorderedInvariant.{SameKind}
 use Rattle.futures_buffered_unordered.proofs.futures_unordered.GrowingSet.push_last.Goals as goal
 
 pub push-requires : goal.push-requires

@@ -1,6 +1,4 @@
-use Rattle.std.proofs.Common.{◌≡◌, ◌+◌, ◌-◌, length, ap, arith}
-use Rattle.futures_buffered_core.specs.SlotMap.{slot_count}
-use Rattle.futures_buffered_unordered.specs.FuturesUnorderedBounded.{Bounded, held_in}
+use Rattle.futures_buffered_unordered.proofs.Common.{◌≡◌, ◌+◌, ◌-◌, length, ap, arith, slot_count, Bounded, held_in}
 use Rattle.futures_buffered_unordered.proofs.FuturesUnorderedLemmas.{spare_last}
 use Rattle.futures_buffered_unordered.proofs.futures_unordered.GrowingSet.spare_places.Goals as goal
 

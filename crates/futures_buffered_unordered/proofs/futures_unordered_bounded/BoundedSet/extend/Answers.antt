@@ -1,9 +1,4 @@
-use Rattle.futures_buffered_core.specs.Drawn.{items_of}
-use Rattle.std.proofs.Common.{◌≡◌, rules, sym, subst, ◌∙◌}
-use Rattle.std.proofs.lemmas.Fn.{FoldsTo-push}
-use Rattle.futures_buffered_core.specs.SlotMap.{IsFull}
-use Rattle.futures_buffered_unordered.specs.Extended.{ExtendsUntil}
-use Rattle.futures_buffered_unordered.specs.FuturesUnorderedBounded.{Bounded, Pushes}
+use Rattle.futures_buffered_unordered.proofs.Common.{items_of, ◌≡◌, rules, sym, subst, ◌∙◌, FoldsTo-push, IsFull, ExtendsUntil, Bounded, Pushes}
 use Rattle.futures_buffered_unordered.proofs.futures_unordered_bounded.BoundedSet.extend.Goals as goal
 
 pub loop-item-preserved : goal.loop-item-preserved

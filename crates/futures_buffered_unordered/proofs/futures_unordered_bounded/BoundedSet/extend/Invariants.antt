@@ -1,7 +1,5 @@
-use Rattle.std.specs.List.{FoldsTo}
+use Rattle.futures_buffered_unordered.proofs.Common.{FoldsTo, slot_count, Pushes}
 use Rattle.std.specs.Prelude.{◌≡◌}
-use Rattle.futures_buffered_core.specs.SlotMap.{slot_count}
-use Rattle.futures_buffered_unordered.specs.FuturesUnorderedBounded.{Pushes}
 use Rattle.futures_buffered_unordered.proofs.futures_unordered_bounded.BoundedSet.extend.Given as goal
 
 abbrev pub invariant-loop-item : goal.invariant-loop-item

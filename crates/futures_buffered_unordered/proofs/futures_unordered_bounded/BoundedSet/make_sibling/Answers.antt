@@ -1,5 +1,4 @@
-use Rattle.std.proofs.Common.{arith}
-use Rattle.std.proofs.lemmas.Grind.{common_steps}
+use Rattle.futures_buffered_unordered.proofs.Common.{arith, common_steps}
 use Rattle.futures_buffered_unordered.proofs.futures_unordered_bounded.BoundedSet.make_sibling.Goals as goal
 
 pub invariant_of-result : goal.invariant_of-result

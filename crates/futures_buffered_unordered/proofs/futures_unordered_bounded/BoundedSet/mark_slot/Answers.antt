@@ -1,4 +1,4 @@
-use Rattle.std.proofs.Common.{rules}
+use Rattle.futures_buffered_unordered.proofs.Common.{rules}
 use Rattle.futures_buffered_unordered.proofs.futures_unordered_bounded.BoundedSet.mark_slot.Goals as goal
 
 pub returns-clause-marked : goal.returns-clause-marked

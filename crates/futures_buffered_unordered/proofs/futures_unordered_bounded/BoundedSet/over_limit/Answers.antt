@@ -1,6 +1,4 @@
-use Rattle.std.proofs.Common.{◌≡◌, Some, length, refl, ap, ◌∙◌, rules}
-use Rattle.std.proofs.lemmas.List.{length-map}
-use Rattle.futures_buffered_core.specs.SlotMap.{slot_count}
+use Rattle.futures_buffered_unordered.proofs.Common.{◌≡◌, Some, length, refl, ap, ◌∙◌, rules, length-map, slot_count}
 use Rattle.futures_buffered_core.proofs.MadeMarkedLemmas.{marked_slots}
 use Rattle.futures_buffered_unordered.proofs.futures_unordered_bounded.BoundedSet.over_limit.Goals as goal
 

@@ -1,8 +1,4 @@
-use Rattle.futures_buffered_unordered.specs.FuturesUnorderedBounded.{Bounded}
-use Rattle.std.proofs.Common.{Some, refl, sym, arith, ◌∙◌, length-set, ap, subst}
-use Rattle.futures.specs.Task.{Covers}
-use Rattle.futures_buffered_unordered.specs.Held.{AllHeld}
-use Rattle.futures_buffered_table.specs.declared.answer.Taken.TheVariants.{Empty, Pause}
+use Rattle.futures_buffered_unordered.proofs.Common.{Bounded, Some, refl, sym, arith, ◌∙◌, length-set, ap, subst, Covers, AllHeld, Empty, Pause}
 use Rattle.futures_buffered_unordered.proofs.PollsBoundedLemmas.{SoFar-start, SoFar-skip, SoFar-pending, takes_all, takes_last, takes_ready}
 use Rattle.futures_buffered_unordered.proofs.futures_unordered_bounded.BoundedSet.poll_first_registered.Goals.{in-Some+in_default-poll_one, in_default}
 use Rattle.futures_buffered_unordered.proofs.futures_unordered_bounded.BoundedSet.poll_first_registered.Goals as goal

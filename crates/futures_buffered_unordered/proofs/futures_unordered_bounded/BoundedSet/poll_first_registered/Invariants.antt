@@ -1,6 +1,4 @@
-use Rattle.std.proofs.Common.{◌≡◌, ◌≤◌}
-use Rattle.futures.specs.Task.{Covers}
-use Rattle.futures_buffered_core.specs.SlotMap.{slot_count}
+use Rattle.futures_buffered_unordered.proofs.Common.{◌≡◌, ◌≤◌, Covers, slot_count}
 use Rattle.futures_buffered_unordered.proofs.PollsBoundedLemmas.{SoFar}
 use Rattle.futures_buffered_unordered.proofs.futures_unordered_bounded.BoundedSet.poll_first_registered.Given as goal
 

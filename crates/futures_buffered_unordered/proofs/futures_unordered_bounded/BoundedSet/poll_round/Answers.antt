@@ -1,4 +1,4 @@
-use Rattle.std.proofs.Common.{◌≡◌, true, false, rules}
+use Rattle.futures_buffered_unordered.proofs.Common.{◌≡◌, true, false, rules}
 use Rattle.futures_buffered_unordered.proofs.PollsBoundedLemmas.{takes_after, takes_registered}
 use Rattle.futures_buffered_unordered.proofs.futures_unordered_bounded.BoundedSet.poll_round.Goals as goal
 

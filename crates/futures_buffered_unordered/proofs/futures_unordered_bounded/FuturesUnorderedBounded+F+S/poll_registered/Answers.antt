@@ -1,7 +1,4 @@
-use Rattle.std.proofs.Common.{◌<◌, true, arith}
-use Rattle.std.proofs.lemmas.Grind.{common_steps}
-use Rattle.futures_buffered_core.specs.SlotMap.{held_count}
-use Rattle.futures_buffered_unordered.specs.PollsBounded.{unless_registered}
+use Rattle.futures_buffered_unordered.proofs.Common.{◌<◌, true, arith, common_steps, held_count, unless_registered}
 use Rattle.futures_buffered_unordered.proofs.HeldLemmas.{some_from_end}
 use Rattle.futures_buffered_unordered.proofs.PollsBoundedLemmas.{polls_output, polls_pending, takes_held, takes_registered}
 use Rattle.futures_buffered_unordered.proofs.futures_unordered_bounded.FuturesUnorderedBounded+F+S.poll_registered.Goals as goal

@@ -1,8 +1,4 @@
-use Rattle.std.proofs.Common.{◌<◌, arith}
-use Rattle.std.proofs.lemmas.Grind.{common_steps}
-use Rattle.futures.specs.declared.task.Poll.TheVariants.{Ready, Pending}
-use Rattle.futures_buffered_core.specs.SlotMap.{held_count}
-use Rattle.futures_buffered_unordered.specs.PollsBounded.{RegistersAndTakes}
+use Rattle.futures_buffered_unordered.proofs.Common.{◌<◌, arith, common_steps, Ready, Pending, held_count, RegistersAndTakes}
 use Rattle.futures_buffered_unordered.proofs.HeldLemmas.{some_from_end}
 use Rattle.futures_buffered_unordered.proofs.PollsBoundedLemmas.{polls_output, polls_pending, takes_after, takes_held}
 use Rattle.futures_buffered_unordered.proofs.futures_unordered_bounded.FuturesUnorderedBounded+F+S.poll_with.Goals as goal

@@ -1,4 +1,4 @@
-use Rattle.std.proofs.Common.{arith}
+use Rattle.futures_buffered_unordered.proofs.Common.{arith}
 use Rattle.futures_buffered_unordered.proofs.FuturesUnorderedStreamLemmas.{answers_as_stream}
 use Rattle.futures_buffered_unordered.proofs.growing_stream.FuturesUnorderedStream.TheImpl.Goals as goal
 

@@ -1,4 +1,4 @@
-use Rattle.std.proofs.Common.{arith}
+use Rattle.futures_buffered_unordered.proofs.Common.{arith}
 use Rattle.futures_buffered_unordered.proofs.MergeStreamLemmas.{bounded_answers}
 use Rattle.futures_buffered_unordered.proofs.merge_bounded.MergeBoundedStream.TheImpl.Goals as goal
 

@@ -1,5 +1,4 @@
-use Rattle.std.proofs.Common.{◌≡◌, true, rules}
-use Rattle.futures_buffered_unordered.specs.PollsBounded.{unless_registered}
+use Rattle.futures_buffered_unordered.proofs.Common.{◌≡◌, true, rules, unless_registered}
 use Rattle.futures_buffered_unordered.proofs.FuturesUnorderedStreamLemmas.{unless_waits}
 use Rattle.futures_buffered_unordered.proofs.MergeUnboundedLemmas.{alike_merged}
 use Rattle.futures_buffered_unordered.proofs.MergingLemmas.{merged_leaves}

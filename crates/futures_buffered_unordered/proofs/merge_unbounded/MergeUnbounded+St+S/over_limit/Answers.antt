@@ -1,6 +1,4 @@
-use Rattle.std.proofs.Common.{◌≡◌, Err, rules, subst}
-use Rattle.futures_buffered_table.specs.declared.answer.NewFault.TheVariants.{TooLarge}
-use Rattle.futures_buffered_unordered.specs.FuturesUnordered.{Growing, PushesEach}
+use Rattle.futures_buffered_unordered.proofs.Common.{◌≡◌, Err, rules, subst, TooLarge, Growing, PushesEach}
 use Rattle.futures_buffered_unordered.proofs.merge_unbounded.MergeUnbounded+St+S.over_limit.Goals as goal
 
 pub returns : goal.returns

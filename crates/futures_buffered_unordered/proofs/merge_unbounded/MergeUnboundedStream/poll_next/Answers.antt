@@ -1,4 +1,4 @@
-use Rattle.std.proofs.Common.{arith}
+use Rattle.futures_buffered_unordered.proofs.Common.{arith}
 use Rattle.futures_buffered_unordered.proofs.FuturesUnorderedLemmas.{covered_of}
 use Rattle.futures_buffered_unordered.proofs.MergeUnboundedLemmas.{ends_of, held_of}
 use Rattle.futures_buffered_unordered.proofs.merge_unbounded.MergeUnboundedStream.poll_next.Goals as goal
