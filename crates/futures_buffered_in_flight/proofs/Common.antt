@@ -7,7 +7,7 @@ pub use Rattle.std.proofs.lemmas.List.{get_or-set_other, get_or-set_same, length
 pub use Rattle.std.proofs.lemmas.List.Sums.{get_or-le-sum_by, sum_by-append, sum_by-cons, sum_by-set}
 pub use Rattle.std.proofs.lemmas.Option.{same_Some}
 pub use Rattle.std.specs.List.{AllByRecursion, FoldsTo, range_with_len, sum_by}
-pub use Rattle.std.specs.Prelude.{Err, IfErr, IsErr, MatchOption, Ok, OnOk, Result, max, min, replicate}
+pub use Rattle.std.specs.Prelude.{Err, IfErr, IsErr, MatchOption, MatchResult, Ok, OnOk, Result, max, min, replicate}
 pub use Rattle.std.specs.Vec.Iter.{into_iter_items}
 pub use Rattle.futures.specs.Poll.{IfReady, OnPending}
 pub use Rattle.futures.specs.Queued.{AllPollable, AnyGives, AnyMay, Gathers, GivesNoMore, set_len, set_places}
@@ -25,11 +25,12 @@ pub use Rattle.futures_buffered_unordered.specs.FuturesUnorderedBounded.{IsWoken
 pub use Rattle.futures_buffered_unordered.specs.StreamAnswers.{StreamAnswers, stream_of}
 pub use Rattle.futures_buffered_ordered.specs.Numbered.{PollsNumberedSet, PushesInto, one_at}
 pub use Rattle.futures_buffered_ordered.specs.OrderedEntries.{AddsBack, AddsFront, BesideTask, HandsBack, IsUnused, MayRefuse, Ordered, OrderedGives, PollsOrdered, QueueIsAtBound, SetYields, with_task}
-pub use Rattle.futures_buffered_in_flight.specs.InFlight.{AnySlotGives, CameInFlight, CanPollAll, ComesByKey, ComesFromSlots, EntersAt, FliesInOrder, Flights, FlightsGiveNoMore, FlightsWaitAt, FutureOf, GivesByKey, GivesWithKey, HasNoRoom, IsHeld, IsNewInFlight, IsUsedUp, MakesRoom, MayCome, PollsInFlight, PushesInFlight, SlotGives, TagGives, WaitGives, WentIn, flight_slots, room_taken, run_count, runs_in, without_key}
+pub use Rattle.futures_buffered_in_flight.specs.InFlight.{AnySlotGives, CameInFlight, CanPollAll, Cancels, ComesByKey, ComesFromSlots, EntersAt, FliesInOrder, Flights, FlightsGiveNoMore, FlightsWaitAt, FutureOf, GivesByKey, GivesWithKey, HasNoRoom, IsHeld, IsNewInFlight, IsUsedUp, MakesRoom, MayCome, PollsInFlight, PushesInFlight, SlotGives, TagGives, WaitGives, WentIn, flight_slots, room_taken, run_count, runs_in, without_key}
+pub use Rattle.futures_buffered_in_flight.specs.InFlightLedger.{Agrees, CanPollRun, KeepsLedger, Outcome, RunGives, times_held, times_in}
 pub use Rattle.futures_buffered_in_flight.specs.InFlightMerge.{AnswersNoMore, AnswersThen, AnyAnswers, AnyStream, CameOfMerge, CanPollStreams, ComesFromMerged, ComesOfStream, GivesAnswer, HoldsStream, HoldsStreams, IsNewMerge, Merged, MergedWaitsAt, OneGoesOn, OneStreamEndsAtMost, PollsMerge, PollsUnkeyed, StreamEnters, StreamOf, StreamWentIn, Streams, StreamsGoOn, made_set, next_of, streams_held}
 pub use Rattle.futures_buffered_in_flight.specs.InFlightOrdered.{AnswersInTurn, CameInTurn, CanPollOrdered, ComesOfEach, EntersBack, EntersFront, HasPlaces, HoldsInTurn, IsCleared, IsNewInOrder, KeepsInOrder, MayRefuseFuture, OrderedIsFull, OrderedWaitsAt, PushesInTurn, PushesOrComesBack, RefusesFutures, ordered_room}
 pub use Rattle.futures_buffered_in_flight.specs.InFlightQueue.{CanPollQueue, KeepsRoom, MayRefuseNumber, PollsQueued, PushesQueued, RefusesNumbers, flights_with, has_tag}
-pub use Rattle.futures_buffered_in_flight.specs.InFlightTurns.{Flies, Starts}
+pub use Rattle.futures_buffered_in_flight.specs.InFlightTurns.{Flies, RunsLeft, Starts, Takes}
 pub use Rattle.futures_buffered_in_flight.specs.declared.in_flight.Came.{Came}
 pub use Rattle.futures_buffered_in_flight.specs.declared.in_flight.Place.{Place}
 pub use Rattle.futures_buffered_in_flight.specs.declared.run.Key.{Key}

@@ -1,5 +1,7 @@
 -- What a push, a cancel and a poll leave of a merge of streams.
-use Rattle.futures_buffered_in_flight.proofs.Common.{◌≡◌, ◌<◌, ◌≤◌, ◌+◌, ◌-◌, ◌^◌, ◌⊎◌, inl, inr, ℕ, List, [], ◌∷◌, length, is_some, Option, Some, None, refl, sym, ap, ap₂, subst, ◌∙◌, arith, min, FoldsTo, cases_eq, AnyGives, AnyMay, Runs, Within, IsArmed, Keeps, Poll, Ready, Pending, Context, Slots, held_count, no_slots, value_in, IsWoken, StreamAnswers, stream_of, None-Some, answers_of, CanPollAll, EntersAt, FlightsGiveNoMore, GivesWithKey, IsNewInFlight, MakesRoom, MayCome, PollsInFlight, WaitGives, flight_slots, room_taken, runs_in, without_key, AnswersNoMore, AnswersThen, AnyAnswers, AnyStream, CanPollStreams, ComesFromMerged, ComesOfStream, GivesAnswer, HoldsStream, HoldsStreams, IsNewMerge, Merged, OneGoesOn, OneStreamEndsAtMost, PollsMerge, PollsUnkeyed, StreamEnters, StreamOf, StreamWentIn, Streams, StreamsGoOn, made_set, next_of, streams_held, Came, Place, Key, Run, Waits, MergedWaitsAt}
+use Rattle.futures_buffered_in_flight.proofs.Common.{◌≡◌, ◌<◌, ◌≤◌, ◌+◌, ◌-◌, ◌^◌, ◌⊎◌, inl, inr, ℕ, List, [], ◌∷◌, length, is_some, Option, Some, None, false, false≢true, refl, sym, ap, ap₂, subst, ◌∙◌, arith, min, FoldsTo, cases_eq, AnyGives, AnyMay, Runs, Within, IsArmed, Keeps, Poll, Ready, Pending, Context, Slots, held_count, no_slots, value_in, IsWoken, StreamAnswers, stream_of, None-Some, answers_of, CanPollAll, EntersAt, FlightsGiveNoMore, GivesWithKey, IsNewInFlight, MakesRoom, MayCome, Ok, PollsInFlight, WaitGives, flight_slots, room_taken, runs_in, without_key, AnswersNoMore, AnswersThen, AnyAnswers, AnyStream, CanPollStreams, ComesFromMerged, ComesOfStream, GivesAnswer, HoldsStream, HoldsStreams, IsNewMerge, Merged, OneGoesOn, OneStreamEndsAtMost, PollsMerge, PollsUnkeyed, StreamEnters, StreamOf, StreamWentIn, Streams, StreamsGoOn, made_set, next_of, streams_held, Came, Place, Key, Run, Waits, MergedWaitsAt}
+use Rattle.std.specs.Prelude.{IsTrue}
+use Rattle.futures_buffered_in_flight.specs.InFlightMerge.{PushesStream}
 use Rattle.futures.specs.Merged.{CanPollNext, NextOf}
 use Rattle.futures.specs.declared.stream.ext.into_future.StreamFuture.{StreamFuture}
 use Rattle.futures_buffered_in_flight.proofs.InFlightLemmas.{NoNewPlace, freed_places, none_can_poll, same_gives, same_places, widens}
@@ -63,14 +65,14 @@ module _ {St A : Type 0} (stream : StreamOf St A) where
   -- a poll that is not pending
   ready : (old new : Streams St) (o : Option (Came A (Unit {0}))) (cx left : Context) → GivesAnswer stream old (Ready o) new → OneStreamEndsAtMost stream old new → ((new.next ≡ old.next) ⊎ (new.next ≡ min (old.next + 1) (2 ^ 64 - 1))) → Keeps cx left → CanPollAll (next_of stream) new
       → PollsMerge stream old (Ready o) new cx left
-  ready old new o cx left gave ended keys kept again = record { gave = gave; ended = ended; keys = keys; stays = tt; dropped = tt; started = tt; registered = tt; kept = kept; again = again }
+  ready old new o cx left gave ended keys kept again = record { gave = gave; ended = ended; keys = keys; dropped = tt; started = tt; registered = tt; kept = kept; again = again }
 
   -- a pending poll of the set, and `None`
   pub stays_pending : (old new : Streams St) (cx left : Context) → PollsInFlight (next_of stream) old Pending new cx left → PollsMerge stream old Pending new cx left
   stays_pending old new cx left p =
       let same = ap (λ (s : Slots (Place ℕ)). held_count s) p.gave.1 in
       let on = goes_on old new (same_places old new p.gave.1) p.narrows in
-      record { gave = (omega (arith, same, p.gave.0), on); ended = inl same; keys = inl p.keys; stays = p.stays; dropped = p.ended; started = p.started; registered = p.registered; kept = p.kept; again = p.again }
+      record { gave = (omega (arith, same, p.gave.0), on); ended = inl same; keys = inl p.keys; dropped = p.ended; started = p.started; registered = p.registered; kept = p.kept; again = p.again }
 
   pub came_none : (old new : Streams St) (cx left : Context) → PollsInFlight (next_of stream) old (Ready None) new cx left → PollsMerge stream old (Ready None) new cx left
   came_none old new cx left p =
@@ -145,7 +147,7 @@ module _ {St A : Type 0} (stream : StreamOf St A) where
     one_ended left is more keeps armed heard =
         let gave : GivesAnswer stream old Pending mid = (omega (arith, more, p.gave.fewer), mid_goes_on) in
         let kept : Keeps cx left = λ fact h. keeps fact (p.kept fact h) in
-        record { gave = gave; ended = ends is mid refl; keys = inl p.keys; stays = inr heard; dropped = inr heard; started = inr heard; registered = (armed, λ source _. heard source); kept = kept; again = p.again }
+        record { gave = gave; ended = ends is mid refl; keys = inl p.keys; dropped = inr heard; started = inr heard; registered = (armed, λ source _. heard source); kept = kept; again = p.again }
 
   -- what any stream may return after a push or an item
   any_on : (old new : Streams St) (key : Key) (own : Runs A) → OneGoesOn stream old key own new → (answer : Option A) → AnyAnswers stream new answer → AnyAnswers stream old answer ⊎ ((before : List A) × own before answer)
@@ -200,9 +202,9 @@ module _ {St A : Type 0} (stream : StreamOf St A) where
       )
 
   -- what was pushed into a new merge is all that it holds
-  pub holds_all : (start new : Merged St) (n : ℕ) (items : List St) → IsNewMerge n start → FoldsTo (StreamWentIn stream) start items new → HoldsStreams stream items new
-  holds_all start new n items empty pushes =
-      let all = holds_beside start new items (none_can_poll (next_of stream) start.set empty.2 empty.3) pushes in
+  pub holds_all : (start new : Merged St) (n : ℕ) (items : List St) → IsNewMerge n start → CanPollStreams stream start → FoldsTo (StreamWentIn stream) start items new → HoldsStreams stream items new
+  holds_all start new n items empty can pushes =
+      let all = holds_beside start new items can pushes in
       record {
         count = omega (arith, all.0, empty.0);
         answers = λ answer h. elim (all.1 answer h) [
@@ -216,12 +218,30 @@ module _ {St A : Type 0} (stream : StreamOf St A) where
 pub can_poll_same : {St A : Type 0} (stream : StreamOf St A) (old new : Streams St) → CanPollAll (next_of stream) old → old ≡ new → CanPollAll (next_of stream) new
 can_poll_same stream old new can same = subst (λ set. CanPollAll (next_of stream) set) same can
 
--- a set that was made for the first push
-pub first_set : {St : Type 0} (set : Streams St) → IsNewInFlight 0 set → set.next ≡ 0 → set ≡ made_set None
-first_set set new next =
-    ap₂ (λ slots running. record { slots = slots; running = running; waiting = set.waiting; cancelled = set.cancelled; next = set.next }) new.0 new.1
-    ∙ (ap₂ (λ waiting cancelled. record { slots = no_slots 0; running = None; waiting = waiting; cancelled = cancelled; next = set.next }) new.2 new.3
-    ∙ ap (λ next. record { slots = no_slots 0; running = None; waiting = []; cancelled = 0; next = next }) next)
+module _ {St A : Type 0} (stream : StreamOf St A) where
+  -- a stream that entered a new set entered one that was not made yet
+  enters_first : (set new : Streams St) (pushed : St) (key : Key) → IsNewInFlight 0 set → set.next ≡ 0 → StreamEnters stream set pushed key new → StreamEnters stream (made_set None) pushed key new
+  enters_first set new pushed key empty next p =
+      let from = goes_on stream (made_set None) set (same_places (made_set None) set empty.0) (same_gives (next_of stream) (made_set None) set empty.1 empty.2) in
+      record {
+        one_more = p.one_more ∙ ap (λ slots. held_count slots + 1) empty.0;
+        held = p.held;
+        numbered = (p.numbered.0 ∙ next, p.numbered.1 ∙ ap (λ n. min (n + 1) (2 ^ 64 - 1)) next);
+        comes = λ k. elim (p.comes k) [ inl own ↦ inl own | inr other ↦ inr (other.0, λ xs last h. from k xs last (other.1 xs last h)) ];
+        again = p.again;
+      }
+
+  -- the first push, for which the set is made
+  pub pushed_first : (set new : Streams St) (limit : ℕ) (pushed : St) (key : Key) → IsNewInFlight 0 set → set.next ≡ 0 → (limit ≤ 0 → IsTrue false) → StreamEnters stream set pushed key new
+      → CanPollAll (next_of stream) new → PushesStream stream (record { set = made_set None; limit = limit }) pushed (Ok key) (record { set = new; limit = limit })
+  pushed_first set new limit pushed key empty next room p again = record {
+    went_in = enters_first set new pushed key empty next p;
+    back = tt;
+    full = λ full. absurd (false≢true (room full));
+    room = λ e. absurd (false≢true e);
+    same_limit = refl;
+    again = again;
+  }
 
 -- before the first push no stream is held
 pub none_holds : (St : Type 0) (key : Key) → HoldsStream (made_set {St = St} None) key → ⊥
@@ -229,4 +249,4 @@ none_holds St key h = absurd (None-Some h.1)
 
 pub none_made : {St A : Type 0} (stream : StreamOf St A) (cx : Context) → PollsMerge stream (made_set None) (Ready None) (made_set None) cx cx
 none_made stream cx =
-    ready stream (made_set None) (made_set None) None cx cx (refl, refl, λ key xs last h. h) (inl refl) (inl refl) (λ fact h. h) (none_can_poll (next_of stream) (made_set None) refl refl)
+    ready stream (made_set None) (made_set None) None cx cx (refl, refl, λ key xs last h. h) (inl refl) (inl refl) (λ fact h. h) (none_can_poll (next_of stream) (made_set None) refl refl refl refl)

@@ -1,4 +1,7 @@
 pub mod Common
+pub mod LedgerLemmas
+pub mod LedgerRuleLemmas
+pub mod AgreesLemmas
 pub mod InFlightLemmas
 pub mod FromIterLemmas
 pub mod InFlightQueueLemmas

@@ -15,6 +15,7 @@ use Rattle.futures.specs.Task.{Covers, Keeps}
 use Rattle.futures_buffered_core.specs.SlotMap.{Slots, value_in, held_count, with_slot_freed, no_slots}
 use Rattle.futures_buffered_core.specs.SlotMap.{GrowsByOne, Inserts}
 use Rattle.futures_buffered_unordered.specs.FuturesUnorderedBounded.{IsWoken}
+use Rattle.futures_buffered_in_flight.specs.Ledger.{Account}
 use Rattle.futures_buffered_in_flight.specs.declared.run.Run.{Run}
 use Rattle.futures_buffered_in_flight.specs.declared.run.Waits.{Waits}
 use Rattle.futures_buffered_in_flight.specs.declared.run.Key.{Key}
@@ -22,13 +23,15 @@ use Rattle.futures_buffered_in_flight.specs.declared.in_flight.Place.{Place}
 use Rattle.futures_buffered_in_flight.specs.declared.in_flight.Came.{Came}
 
 -- the slots, each with the tag and the push number of its future; the set of `futures`; the futures that wait for
--- memory; how many cancelled futures have not ended; and the number of the next push
+-- memory; how many cancelled futures have not ended; the number of the next push; and the ledger of the futures that
+-- have not ended, of which no promise speaks
 pub record Flights (F T : Type 0) : Type 0 where
   pub slots : Slots (Place T)
   pub running : Option (FuturesUnordered (Run F))
   pub waiting : List (Waits F)
   pub cancelled : ℕ
   pub next : ℕ
+  pub ledger : Account
 
 -- the futures in the set of `futures`, at the numbers of their tasks
 abbrev pub runs_in : {F : Type 0} → Option (FuturesUnordered (Run F)) → List (Option (Run F))
@@ -50,7 +53,7 @@ room_taken s = held_count s.slots + s.cancelled
 
 -- what comes of a run has its key, and only an output that its future may give
 abbrev pub GivesWithKey : {F A : Type 0} → (F → A → Type 0) → Run F → Key × Option A → Type 0
-GivesWithKey gives run came = (came.0 ≡ run.key) × IfSome came.1 (gives run.future)
+GivesWithKey gives run came = (came.0 ≡ run.ticket.key) × IfSome came.1 (gives run.future)
 
 -- the answer of a poll without keys and tags
 abbrev pub without_key : {A T : Type 0} → Poll (Option (Came A T)) → Poll (Option A)
@@ -115,7 +118,7 @@ module _ {F T : Type 0} where
 module _ {F A : Type 0} (future : FutureOf F A) where
   -- what a future that waits may give, with its key: nothing under the last number, with which no future starts
   abbrev pub WaitGives : Waits F → Key × Option A → Type 0
-  WaitGives w came = (came.0 ≡ w.key) × (w.key.push + 1 < 2 ^ 64) × IfSome came.1 (future.gives w.future)
+  WaitGives w came = (came.0 ≡ w.ticket.key) × (w.ticket.key.push + 1 < 2 ^ 64) × IfSome came.1 (future.gives w.future)
 
 module _ {F A T : Type 0} (future : FutureOf F A) where
   -- a future that runs or waits may give this, with its key
@@ -152,11 +155,14 @@ module _ {F A T : Type 0} (future : FutureOf F A) where
   abbrev pub FlightsGiveNoMore : Flights F T → Flights F T → Type 0
   FlightsGiveNoMore old new = (came : Key × Option A) → MayCome new came → MayCome old came
 
-  -- each future may be polled, and what may come has the number of a push before the next
+  -- Each future may be polled. No future that is held ends without its output.
   pub record CanPollAll (s : Flights F T) : Type 0 where
     pub running : AllPollable (λ (run : Run F). future.can_poll run.future) (runs_in s.running)
     pub waiting : AllByRecursion (λ (w : Waits F). future.can_poll w.future) s.waiting
+    -- what may come has the number of a push before the next
     pub older : (came : Key × Option A) → MayCome s came → came.0.push < s.next
+    -- as many futures run or wait as are held, or cancelled and have not ended
+    pub counts : run_count s.running + length s.waiting ≡ held_count s.slots + s.cancelled
 
   -- a future was added to a free slot, under this tag and this key; it runs, or waits for memory
   pub record EntersAt (old : Flights F T) (pushed : F) (tag : T) (key : Key) (new : Flights F T) : Type 0 where
@@ -222,9 +228,7 @@ module _ {F A T : Type 0} (future : FutureOf F A) where
     -- the number of the next push does not change, and no more cancelled futures are left than before
     pub keys : new.next ≡ old.next
     pub room : new.cancelled ≤ old.cancelled
-    -- after a pending poll as many futures run or wait as occupy room, and none is cancelled, or the task is woken
-    pub stays : OnPending answer ((run_count new.running + length new.waiting ≡ held_count new.slots + new.cancelled)
-        ⊎ IsWoken left)
+    -- after a pending poll no future is cancelled, or the task is woken
     pub ended : OnPending answer ((new.cancelled ≡ 0) ⊎ IsWoken left)
     -- no future waits for memory, or the task is woken
     pub started : (new.waiting ≡ []) ⊎ IsWoken left
@@ -232,7 +236,7 @@ module _ {F A T : Type 0} (future : FutureOf F A) where
     pub registered : OnPending answer (Covers left (FlightsWaitAt new))
     -- what the task was registered for or woken for before still holds
     pub kept : Keeps cx left
-    -- the set may be polled
+    -- the set may be polled, so each future that is held runs or waits
     pub again : CanPollAll new
 
   -- polling until the next output, or `None`, makes of the set what one poll by some task does

@@ -15,8 +15,9 @@ use Rattle.futures.specs.Task.{Covers, Keeps}
 use Rattle.futures_buffered_core.specs.SlotMap.{held_count, no_slots}
 use Rattle.futures_buffered_unordered.specs.FuturesUnorderedBounded.{IsWoken}
 use Rattle.futures_buffered_in_flight.specs.InFlight.{Cancels, CanPollAll, Flights, FlightsWaitAt, FutureOf, HasNoRoom, IsHeld, MayCome}
-use Rattle.futures_buffered_in_flight.specs.InFlight.{run_count, without_key}
+use Rattle.futures_buffered_in_flight.specs.InFlight.{without_key}
 use Rattle.futures_buffered_in_flight.specs.declared.in_flight.Came.{Came}
+use Rattle.futures_buffered_in_flight.specs.Ledger.{no_account}
 use Rattle.futures_buffered_in_flight.specs.declared.run.Key.{Key}
 
 -- the futures of the next answers of streams, each under the number of the push of its stream
@@ -30,7 +31,7 @@ pub record Merged (St : Type 0) : Type 0 where
 
 -- a set, or a set without a slot if none was made yet
 abbrev pub made_set : {St : Type 0} → Option (Streams St) → Streams St
-made_set None = record { slots = no_slots 0; running = None; waiting = []; cancelled = 0; next = 0 }
+made_set None = record { slots = no_slots 0; running = None; waiting = []; cancelled = 0; next = 0; ledger = no_account }
 made_set (Some set) = set
 
 -- how many streams are held
@@ -178,10 +179,7 @@ module _ {St A : Type 0} (stream : StreamOf St A) where
     pub ended : OneStreamEndsAtMost old new
     -- the number of the next push does not change, or is one more, unless it is the last number
     pub keys : (new.next ≡ old.next) ⊎ (new.next ≡ min (old.next + 1) (2 ^ 64 - 1))
-    -- a pending poll leaves a future for each stream, no cancelled stream, and no stream that waits for memory, or the
-    -- task is woken
-    pub stays : OnPending answer ((run_count new.running + length new.waiting ≡ held_count new.slots + new.cancelled)
-        ⊎ IsWoken left)
+    -- a pending poll leaves no cancelled stream, and no stream that waits for memory, or the task is woken
     pub dropped : OnPending answer ((new.cancelled ≡ 0) ⊎ IsWoken left)
     pub started : OnPending answer ((new.waiting ≡ []) ⊎ IsWoken left)
     -- the task of a pending merge is registered where the set waits, or is woken

@@ -1,6 +1,10 @@
 pub mod InFlight
+pub mod InFlightLedger
 pub mod InFlightTurns
 pub mod InFlightQueue
 pub mod InFlightOrdered
 pub mod InFlightMerge
+pub mod Bells
+pub mod Ledger
+pub mod LedgerRule
 pub mod Waiting

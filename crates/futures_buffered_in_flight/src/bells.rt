@@ -1,9 +1,11 @@
-//! Bells, one for each slot, in tables that a set makes with its slots. A bell shows a run that it was cancelled, and
-//! wakes it.
-ghost use Rattle.std.specs.Prelude.{◌≡◌};
+//! Bells, one for each slot, in tables that a set makes with its slots. A bell wakes a run that was cancelled.
+ghost use Rattle.std.specs.Prelude.{◌≡◌, IfOk, IfSome, OnOk, ◌<◌, slice_index_or};
+ghost use Rattle.std.specs.Arc.{arc_value};
 ghost use Rattle.futures.specs.Task.{Keeps};
+ghost use Rattle.futures_buffered_in_flight.specs.Bells.{notes_of};
 
 use crate::in_flight::Came;
+use crate::ledger::{Ledger, Notes, Notice};
 use crate::run::Key;
 use futures::spin::lock;
 use futures::task::{Context, Poll, Source, Waker};
@@ -17,8 +19,6 @@ use std::sync::{Arc, Mutex};
 // the number of the run before it in its slot, and a pending poll costs two loads here.
 #[derive(Drop)]
 struct Bell {
-    // One more than the number of the last push into this slot that was cancelled. 0 at first.
-    cancelled: AtomicU64,
     // One more than the number of the waker's task, or 0 if there is no waker.
     task: AtomicU64,
     waker: Mutex<Option<Waker>>,
@@ -63,31 +63,44 @@ impl<T> Freed<T> {
 /// A table of bells, in at most two allocations.
 #[derive(Drop)]
 pub struct Bells {
+    // 1 if a run was cancelled and has not ended, otherwise 0.
+    rung: AtomicU64,
+    pub notes: Arc<Notes>,
     source: Source,
     bells: Vec<Bell>,
 }
 
 impl Bells {
     /// Makes a table of `n` bells. Allocates at most twice, and takes time in proportion to `n`.
-    pub fn new(alloc: Global, n: usize) -> Result<Arc<Bells>, AllocError> {
+    pub fn new(alloc: Global, n: usize, notes: Arc<Notes>) -> Result<Arc<Bells>, AllocError>
+        ensures { IfOk result (λ made. (arc_value made).notes ≡ notes) }
+    {
         let mut bells = Vec::with_capacity(alloc, n)?;
         for _slot in 0..n {
             bells.push(Bell {
-                cancelled: AtomicU64::new(0),
                 task: AtomicU64::new(0),
                 waker: Mutex::new(None),
             })?;
         }
-        let source = Source::new();
-        Ok(Arc::new(alloc, Bells { source, bells })?)
+        let bells = Bells {
+            rung: AtomicU64::new(0),
+            notes,
+            source: Source::new(),
+            bells,
+        };
+        Ok(Arc::new(alloc, bells)?)
     }
 
-    /// Returns whether the run of this push was cancelled. Takes one load.
-    pub fn is_cancelled(&self, key: Key) -> bool {
-        match self.bells.get(key.slot) {
-            Some(bell) => bell.cancelled.load(SeqCst) > key.push,
-            None => false,
+    /// Returns a notice if the run of this push was cancelled. Takes one load, unless a run of the set was cancelled and
+    /// has not ended.
+    pub fn notice(&self, key: Key) -> Option<Notice>
+        ensures { IfSome result (λ notice. (notice.id ≡ arc_value self.now.notes)
+            × (key.push < slice_index_or notice.told key.slot 0)) }
+    {
+        if self.rung.load(SeqCst) == 0 {
+            return None;
         }
+        self.notes.look(key)
     }
 
     /// Leaves a waker of the polling task in the bell of this slot, if the bell has none of this task. Wakes the task of
@@ -110,14 +123,19 @@ impl Bells {
         bell.task.store(name, SeqCst);
     }
 
-    /// Marks the run of this push as cancelled, and wakes the task whose waker its slot has. That is the task of this
-    /// run, or of an earlier run in the slot.
+    /// Makes each run look whether it was cancelled, and wakes the task whose waker the slot of this push has. That is
+    /// the task of this run, or of an earlier run in the slot.
     pub fn ring(&self, key: Key) {
+        self.rung.store(1, SeqCst);
         if let Some(bell) = self.bells.get(key.slot) {
-            bell.cancelled.store(key.push.wrapping_add(1), SeqCst);
             // A run that was not polled yet is polled in any case.
             bell.wake();
         }
+    }
+
+    /// Ends the looks: each run that was cancelled has ended.
+    pub fn rest(&self) {
+        self.rung.store(0, SeqCst);
     }
 
     /// Wakes the task of one run that left a waker, and returns whether any run did. Takes time in proportion to the
@@ -141,15 +159,17 @@ impl Bells {
 /// A run looks at the table that was the newest when the run started, which has a bell for its slot.
 #[derive(Drop)]
 pub struct Tables {
-    newest: Arc<Bells>,
+    pub newest: Arc<Bells>,
     // The tables that the set outgrew, until all runs are dropped.
     older: Vec<Arc<Bells>>,
 }
 
 impl Tables {
-    /// Makes one table of `n` bells.
-    pub fn new(alloc: Global, n: usize) -> Result<Tables, AllocError> {
-        let newest = Bells::new(alloc, n)?;
+    /// Makes one table of `n` bells, whose runs read these notes.
+    pub fn new(alloc: Global, n: usize, notes: Arc<Notes>) -> Result<Tables, AllocError>
+        ensures { IfOk result (λ tables. notes_of (arc_value tables.newest) ≡ arc_value notes) }
+    {
+        let newest = Bells::new(alloc, n, notes)?;
         Ok(Tables {
             newest,
             older: Vec::new(alloc),
@@ -157,25 +177,38 @@ impl Tables {
     }
 
     /// Returns the table for a run that starts, or `None` if it is shared too often.
-    pub fn newest(&self) -> Option<Arc<Bells>> {
+    pub fn newest(&self) -> Option<Arc<Bells>>
+        ensures { IfSome result (λ bells. arc_value bells ≡ arc_value self.now.newest) }
+    {
         Arc::try_clone(&self.newest).ok()
     }
 
     /// If the newest table has fewer than `slots` bells, makes a newer one for all slots, with at least twice the
-    /// bells. If an allocation fails, the tables do not change.
-    pub fn reserve(&mut self, alloc: Global, slots: usize) -> Result<(), AllocError> {
+    /// bells, and numbers in the ledger. If an allocation fails, the tables do not change.
+    pub fn reserve(
+        &mut self,
+        alloc: Global,
+        slots: usize,
+        ledger: &mut Ledger,
+    ) -> Result<(), AllocError>
+        ensures notes { notes_of (arc_value self.new.newest) ≡ notes_of (arc_value self.old.newest) }
+        ensures ledger { ledger.new ≡ ledger.old }
+    {
         let bells = self.newest.bells.len();
         if slots <= bells {
             return Ok(());
         }
+        let slots = slots.max(bells.saturating_mul(2));
         self.older.reserve(1)?;
-        let newest = Bells::new(alloc, slots.max(bells.saturating_mul(2)))?;
+        ledger.reserve(alloc, slots)?;
+        let notes = Arc::try_clone(&self.newest.notes)?;
+        let newest = Bells::new(alloc, slots, notes)?;
         self.older
             .push_reserved(std::mem::replace(&mut self.newest, newest));
         Ok(())
     }
 
-    /// Marks the run of this future as cancelled, wakes it if its poll was pending, and returns its tag. Goes over all
+    /// Makes the run of this future look whether it was cancelled, wakes it if its poll was pending, and returns its tag. Goes over all
     /// tables, one for each doubling. A run that waited for memory looks at a newer table than the newest one at its
     /// push. The slot of a table may have the task of another run, which is woken too.
     pub fn ring<T>(&self, freed: Freed<T>) -> T
@@ -189,6 +222,14 @@ impl Tables {
         tag
     }
 
+    /// Ends the looks of runs: each run that was cancelled has ended.
+    pub fn rest(&self) {
+        self.newest.rest();
+        for bells in &self.older {
+            bells.rest();
+        }
+    }
+
     /// Wakes the task of one run that left a waker, if any run did.
     pub fn wake_any(&self) {
         let _ = self.newest.wake_any() || self.older.iter().any(|bells| bells.wake_any());
@@ -196,7 +237,9 @@ impl Tables {
 
     /// Drops all wakers and the older tables, since all runs were dropped. That wakes the tasks whose polls left the
     /// wakers.
-    pub fn let_all_go(&mut self) {
+    pub fn let_all_go(&mut self)
+        ensures { notes_of (arc_value self.new.newest) ≡ notes_of (arc_value self.old.newest) }
+    {
         self.newest.let_all_go();
         for bells in &self.older {
             bells.let_all_go();

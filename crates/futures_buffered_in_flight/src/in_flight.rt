@@ -3,20 +3,24 @@
 //! A set owns the slots, and a `FuturesUnordered` of `futures`, which polls the futures that were pushed or woken. A
 //! `FuturesUnorderedBy` is of one of two kinds: `FuturesUnorderedBounded` has a fixed number of slots, and
 //! `FuturesUnordered` makes slots.
-ghost use Rattle.std.specs.Prelude.{◌≡◌, ◌+◌, ◌-◌, ◌^◌, ◌≤◌, ◌↔◌, ◌⊎◌, ◌<◌, Bool, false, true, [], IfOk, IfErr, OnErr, OnOk, IfNone, IfSome};
+ghost use Rattle.std.specs.Prelude.{◌≡◌, ◌∷◌, ◌+◌, ◌-◌, ◌^◌, ◌≤◌, ◌↔◌, ◌⊎◌, ◌<◌, Bool, false, true, [], IfOk, IfErr, OnErr, OnOk, IfNone, IfSome};
 ghost use Rattle.std.specs.Prelude.{IsSome, IsTrue, None, length, min};
 ghost use Rattle.std.specs.List.{AllByRecursion};
 ghost use Rattle.futures.specs.Queued.{AllPollable, AnyGives};
 ghost use Rattle.futures_buffered_core.specs.Made.{MakesSlots};
-ghost use Rattle.futures_buffered_core.specs.SlotMap.{Inserts, held_count, no_slots, slot_count};
+ghost use Rattle.futures_buffered_core.specs.SlotMap.{Inserts, held_count, no_slots, slot_count, value_in};
+ghost use Rattle.std.specs.Arc.{arc_value};
+ghost use Rattle.futures_buffered_in_flight.specs.Bells.{notes_of};
 ghost use Rattle.futures_buffered_in_flight.specs.InFlight.{CanPollAll, Cancels, CancelsOrNone, EntersAt, GivesWithKey, HasNoRoom};
 ghost use Rattle.futures_buffered_in_flight.specs.InFlight.{IsHeld, IsNewInFlight, PushesInFlight};
 ghost use Rattle.futures_buffered_in_flight.specs.InFlight.{flight_slots, room_taken, run_count, runs_in};
 ghost use Rattle.futures_buffered_in_flight.specs.InFlightTurns.{Flies};
+ghost use Rattle.futures_buffered_in_flight.specs.Ledger.{IsGivenBy};
 ghost use Rattle.futures_buffered_in_flight.specs.declared.run.Run.{Run};
 ghost use Rattle.futures_buffered_in_flight.specs.declared.run.Waits.{Waits};
 
 use crate::bells::{Bells, Freed, Tables};
+use crate::ledger::{Ledger, Ticket};
 use crate::run::{Key, Run, Waits};
 use futures::Future;
 use futures::stream::FuturesUnordered;
@@ -82,6 +86,7 @@ pub struct FuturesUnorderedBy<F, T, K> {
     pub(crate) waiting: VecDeque<Waits<F>>,
     pub(crate) cancelled: usize,
     pub(crate) next: u64,
+    pub(crate) ledger: Ledger,
     pub(crate) bells: Tables,
     pub(crate) alloc: Global,
     kind: PhantomData<K>,
@@ -91,10 +96,13 @@ pub struct FuturesUnorderedBy<F, T, K> {
 pub type FuturesUnorderedBounded<F, T = ()> = FuturesUnorderedBy<F, T, Bounded>;
 
 impl<F, T, K> Model for FuturesUnorderedBy<F, T, K> {
-    ghost use Rattle.std.specs.Prelude.{◌≤◌, ◌+◌, length};
+    ghost use Rattle.std.specs.Prelude.{◌≡◌, ◌≤◌, ◌+◌, ℕ, length};
     ghost use Rattle.std.specs.VecDeque.{deque_capacity};
     ghost use Rattle.futures_buffered_core.specs.SlotMap.{held_count, slot_count};
+    ghost use Rattle.std.specs.Arc.{arc_value};
+    ghost use Rattle.futures_buffered_in_flight.specs.Bells.{notes_of};
     ghost use Rattle.futures_buffered_in_flight.specs.InFlight.{Flights};
+    ghost use Rattle.futures_buffered_in_flight.specs.InFlightLedger.{KeepsLedger};
 
     ghost Value = { Flights F T };
 
@@ -104,11 +112,21 @@ impl<F, T, K> Model for FuturesUnorderedBy<F, T, K> {
       waiting = s.waiting.items;
       cancelled = s.cancelled;
       next = s.next;
+      ledger = s.ledger;
     } };
 
     // At most as many futures occupy room as there are slots. Each future that waits occupies room, and each slot has a
-    // place in which its future can wait.
+    // place in which its future can wait. The runs read the ledger of the set, which has each future that has not ended.
     ghost invariant = { λ s. (slot_count s.slots ≤ deque_capacity s.waiting)
+        × (notes_of (arc_value s.bells.newest) ≡ s.ledger.id)
+        × KeepsLedger (record {
+          slots = s.slots;
+          running = s.running;
+          waiting = s.waiting.items;
+          cancelled = s.cancelled;
+          next = s.next;
+          ledger = s.ledger;
+        })
         × (length s.waiting.items ≤ held_count s.slots + s.cancelled)
         × (held_count s.slots + s.cancelled ≤ slot_count s.slots) };
 }
@@ -161,7 +179,7 @@ impl<F: Drop, T: Drop, K> FuturesUnorderedBy<F, T, K> {
         ensures freed { IfSome result (λ freed. (freed.key ≡ key) × Cancels self.old key freed.tag self.new) }
         ensures none { IfNone result ((self.new ≡ self.old) × ((tag : T) → IsHeld self.old key tag → ⊥)) }
         ensures rest { (self.new.running ≡ self.old.running) × (self.new.waiting ≡ self.old.waiting) }
-        ensures keys { self.new.next ≡ self.old.next }
+        ensures keys { (self.new.next ≡ self.old.next) × (self.new.ledger ≡ self.old.ledger) }
     {
         if !self.contains(key) {
             return None;
@@ -173,17 +191,18 @@ impl<F: Drop, T: Drop, K> FuturesUnorderedBy<F, T, K> {
         Some(Freed::new(key, place.tag))
     }
 
-    // Counts one cancelled future less, if there is one: a future that occupied room has ended.
-    pub(crate) fn end_cancelled(&mut self)
-        requires { length self.old.waiting + 1 ≤ room_taken self.old }
+    // Counts one cancelled future less: the future of this ticket, which is not held, has ended.
+    pub(crate) fn end_cancelled(&mut self, ticket: Ticket)
+        requires given { IsGivenBy self.old.ledger ticket }
+        requires over { (tag : T) → IsHeld self.old ticket.key tag → ⊥ }
+        requires room { length self.old.waiting + 1 ≤ room_taken self.old }
+        ensures fewer { self.new.cancelled + 1 ≡ self.old.cancelled }
+        ensures ledger { (self.new.ledger.id ≡ self.old.ledger.id) × (self.new.ledger.clears ≡ self.old.ledger.clears) }
         ensures rest { (self.new.slots ≡ self.old.slots) × (self.new.next ≡ self.old.next)
             × (self.new.waiting ≡ self.old.waiting) × (self.new.running ≡ self.old.running) }
-        ensures room { (self.new.cancelled ≡ self.old.cancelled) ⊎ (self.new.cancelled + 1 ≡ self.old.cancelled) }
-        ensures some { 0 < self.old.cancelled → self.new.cancelled + 1 ≡ self.old.cancelled }
     {
-        if self.cancelled > 0 {
-            self.cancelled -= 1;
-        }
+        self.ledger.take_back(ticket);
+        self.cancelled -= 1;
     }
 
     // Returns how many of the futures that occupy room do not wait.
@@ -193,25 +212,17 @@ impl<F: Drop, T: Drop, K> FuturesUnorderedBy<F, T, K> {
         self.slots.len() + self.cancelled - self.waiting.len()
     }
 
-    // Returns how many futures the set of `futures` has.
-    pub(crate) fn running_len(&self) -> usize
-        ensures { result ≡ run_count self.now.running }
-    {
-        match &self.running {
-            Some(running) => running.len(),
-            None => 0,
-        }
-    }
-
     // Drops each future. The slots do not change.
     pub(crate) fn drop_all(&mut self)
-        requires { held_count self.old.slots ≡ 0 }
         ensures none { (self.new.running ≡ None) × (self.new.waiting ≡ []) × (self.new.cancelled ≡ 0) }
         ensures rest { (self.new.slots ≡ self.old.slots) × (self.new.next ≡ self.old.next) }
+        ensures tickets { self.new.ledger.tickets ≡ [] }
     {
         self.running = None;
         self.waiting.clear();
         self.cancelled = 0;
+        self.ledger.clear();
+        self.bells.rest();
         self.bells.let_all_go();
     }
 }
@@ -226,13 +237,18 @@ impl<F: Future<Output: Drop>, T: Drop, K> FuturesUnorderedBy<F, T, K> {
     {
         let slots = PinSlotMap::new(alloc, n)?;
         let waiting = VecDeque::with_capacity(alloc, n)?;
-        let bells = Tables::new(alloc, n)?;
+        let ledger = Ledger::new(alloc, n)?;
+        let Some(notes) = ledger.notes() else {
+            return Err(NewFault::Memory);
+        };
+        let bells = Tables::new(alloc, n, notes)?;
         Ok(FuturesUnorderedBy {
             slots,
             running: None,
             waiting,
             cancelled: 0,
             next: 0,
+            ledger,
             bells,
             alloc,
             kind: PhantomData,
@@ -248,9 +264,8 @@ impl<F: Future<Output: Drop>, T: Drop, K> FuturesUnorderedBy<F, T, K> {
         ensures keys { self.new.next ≡ self.old.next }
         ensures can_poll { CanPollAll F.Future self.new }
     {
-        self.waiting.clear();
-        self.slots.clear();
         self.drop_all();
+        self.slots.clear();
     }
 
     // Returns the bells for the run of this push, and makes the set of `futures` if there is none. Returns `None` if
@@ -258,9 +273,11 @@ impl<F: Future<Output: Drop>, T: Drop, K> FuturesUnorderedBy<F, T, K> {
     fn bells_for(&mut self, push: u64) -> Option<Arc<Bells>>
         ensures runs { (runs_in self.new.running ≡ runs_in self.old.running)
             × (run_count self.new.running ≡ run_count self.old.running) }
-        ensures some { IfSome result (λ _. IsSome self.new.running × (push + 1 < 2 ^ 64)) }
+        ensures some { IfSome result (λ bells. IsSome self.new.running × (push + 1 < 2 ^ 64)
+            × (notes_of (arc_value bells) ≡ self.old.ledger.id)) }
         ensures slots { (self.new.slots ≡ self.old.slots) × (self.new.next ≡ self.old.next) }
         ensures room { (self.new.cancelled ≡ self.old.cancelled) × (self.new.waiting ≡ self.old.waiting) }
+        ensures ledger { self.new.ledger ≡ self.old.ledger }
     {
         if push == u64::MAX {
             return None;
@@ -280,34 +297,38 @@ impl<F: Future<Output: Drop>, T: Drop, K> FuturesUnorderedBy<F, T, K> {
     fn hand_over(&mut self, value: Waits<F>) -> Result<(), Waits<F>>
         requires held { AllPollable (λ (run : Run F). F.can_poll run.future) (runs_in self.old.running) }
         requires new { F.can_poll value.future }
+        requires given { IsGivenBy self.old.ledger value.ticket }
         ensures pollable { AllPollable (λ (run : Run F). F.can_poll run.future) (runs_in self.new.running) }
         ensures gives { OnOk result ((came : _) → AnyGives (GivesWithKey F.gives) (runs_in self.new.running) came
             → AnyGives (GivesWithKey F.gives) (runs_in self.old.running) came
-            ⊎ ((came.0 ≡ value.key) × IfSome came.1 (F.gives value.future))) }
+            ⊎ ((came.0 ≡ value.ticket.key) × IfSome came.1 (F.gives value.future))) }
         ensures refused { OnErr result ((came : _) → AnyGives (GivesWithKey F.gives) (runs_in self.new.running) came
             → AnyGives (GivesWithKey F.gives) (runs_in self.old.running) came) }
         ensures one_more { OnOk result
             (run_count self.new.running ≡ run_count self.old.running + 1) }
         ensures no_more { OnErr result (run_count self.new.running ≡ run_count self.old.running) }
-        ensures below { OnOk result (value.key.push + 1 < 2 ^ 64) }
+        ensures below { OnOk result (value.ticket.key.push + 1 < 2 ^ 64) }
         ensures back { IfErr result (λ back. back ≡ value) }
         ensures slots { (self.new.slots ≡ self.old.slots) × (self.new.next ≡ self.old.next) }
         ensures room { (self.new.cancelled ≡ self.old.cancelled) × (self.new.waiting ≡ self.old.waiting) }
+        ensures ledger { self.new.ledger ≡ self.old.ledger }
     {
-        let Some(bells) = self.bells_for(value.key.push) else {
+        let Some(bells) = self.bells_for(value.ticket.key().push) else {
             return Err(value);
         };
         let Some(running) = &mut self.running else {
             unreachable!()
         };
-        let Waits { key, future } = value;
-        let Err(failed) = running.push(Run { key, bells, future }) else {
+        let Waits { ticket, future } = value;
+        let Err(failed) = running.push(Run {
+            ticket,
+            bells,
+            future,
+        }) else {
             return Ok(());
         };
-        Err(Waits {
-            key,
-            future: failed.value.future,
-        })
+        let Run { ticket, future, .. } = failed.value;
+        Err(Waits { ticket, future })
     }
 
     // Pushes the future into the set of `futures`, or the future waits. With the last number it waits permanently.
@@ -316,6 +337,7 @@ impl<F: Future<Output: Drop>, T: Drop, K> FuturesUnorderedBy<F, T, K> {
         requires held { AllPollable (λ (run : Run F). F.can_poll run.future) (runs_in self.old.running) }
         requires waits { AllByRecursion (λ (waits : Waits F). F.can_poll waits.future) self.old.waiting }
         requires new { F.can_poll value.future }
+        requires given { IsGivenBy self.old.ledger value.ticket }
         requires room { length self.old.waiting + 1 ≤ room_taken self.old }
         ensures { Flies F.Future self.old value self.new }
     {
@@ -324,23 +346,24 @@ impl<F: Future<Output: Drop>, T: Drop, K> FuturesUnorderedBy<F, T, K> {
         }
     }
 
-    // Takes the first free slot for a future under this tag. Returns the key of this push.
-    fn take_slot(&mut self, tag: T) -> Key
+    // Takes the first free slot for a future under this tag. Returns the ticket of this push.
+    fn take_slot(&mut self, tag: T) -> Ticket
         requires { room_taken self.old < flight_slots self.old }
-        ensures numbered { (result.push ≡ self.old.next) × (self.old.next < 2 ^ 64)
+        ensures numbered { (result.key.push ≡ self.old.next) × (self.old.next < 2 ^ 64)
             × (self.new.next ≡ min (self.old.next + 1) (2 ^ 64 - 1)) }
-        ensures went_in { Inserts self.old.slots result.slot (record { tag = tag; push = result.push }) self.new.slots }
+        ensures went_in { Inserts self.old.slots result.key.slot (record { tag = tag; push = result.key.push }) self.new.slots }
         ensures one_more { held_count self.new.slots ≡ held_count self.old.slots + 1 }
         ensures rest { (self.new.running ≡ self.old.running) × (self.new.waiting ≡ self.old.waiting)
             × (self.new.cancelled ≡ self.old.cancelled) }
         ensures room { length self.new.waiting + 1 ≤ room_taken self.new }
+        ensures ticket { IsGivenBy self.new.ledger result }
     {
         let push = self.next;
         let Ok(slot) = self.slots.insert_with(Place { tag, push }, |place| place) else {
             unreachable!()
         };
         self.next = push.saturating_add(1);
-        Key { push, slot }
+        self.ledger.give(Key { push, slot })
     }
 
     // Wakes a task whose poll was pending, if a future waits for memory.
@@ -359,10 +382,23 @@ impl<F: Future<Output: Drop>, T: Drop, K> FuturesUnorderedBy<F, T, K> {
         requires fit { F.can_poll future }
         ensures { EntersAt F.Future self.old future tag result self.new }
     {
-        let key = self.take_slot(tag);
-        self.start(Waits { key, future });
+        let ticket = self.take_slot(tag);
+        let key = ticket.key();
+        self.start(Waits { ticket, future });
         self.call_back();
         key
+    }
+
+    // Tells the run of this key that it was cancelled. A future with the last number never runs.
+    fn tell(&mut self, key: Key)
+        requires { value_in self.old.slots key.slot ≡ None }
+        ensures futures { (self.new.running ≡ self.old.running) × (self.new.waiting ≡ self.old.waiting) }
+        ensures room { (self.new.slots ≡ self.old.slots) × (self.new.cancelled ≡ self.old.cancelled) }
+        ensures keys { self.new.next ≡ self.old.next }
+    {
+        if key.push < self.next {
+            self.ledger.tell(key);
+        }
     }
 
     /// Cancels the future of this key, so that its output is never returned, and returns its tag. Returns `None`, and
@@ -376,13 +412,13 @@ impl<F: Future<Output: Drop>, T: Drop, K> FuturesUnorderedBy<F, T, K> {
     /// of its tables of bells, one for each doubling. Wakes the task that polled the future last, if any did. After
     /// polls by two tasks, it may wake only the task that polled earlier. Another future may be woken too, and is then
     /// polled once more.
-    #[tactic(auto, using(crate::proofs::InFlightLemmas::same_can_poll))]
     pub fn cancel(&mut self, key: Key) -> Option<T>
         requires { CanPollAll F.Future self.old }
         ensures cancels { CancelsOrNone self.old key result self.new }
         ensures again { CanPollAll F.Future self.new }
     {
         let freed = self.take_place(key)?;
+        self.tell(key);
         Some(self.bells.ring(freed))
     }
 }

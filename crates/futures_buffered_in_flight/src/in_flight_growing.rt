@@ -26,7 +26,7 @@ impl<F: Drop, T: Drop, K: Kind> FuturesUnorderedBy<F, T, K> {
             return Err(AllocError);
         };
         self.waiting.reserve(slots - self.waiting.len())?;
-        self.bells.reserve(self.alloc, slots)?;
+        self.bells.reserve(self.alloc, slots, &mut self.ledger)?;
         self.slots.grow_by_one()
     }
 

@@ -168,7 +168,7 @@ impl<St: Stream<Item: Drop>> MergeBounded<St> {
     /// If each slot is in use, allocates for one slot more. Many pushes together take time and allocate in proportion
     /// to their number. If a further allocation for the stream fails, the stream waits, and a later poll tries again.
     /// Wakes a task whose poll was pending.
-    #[tactic(auto, using(crate::proofs::InFlightLemmas::none_can_poll, crate::proofs::InFlightMergeLemmas::first_set))]
+    #[tactic(auto, using(crate::proofs::InFlightLemmas::none_can_poll))]
     pub fn try_push(&mut self, stream: St) -> Result<Key, St>
         requires held { CanPollStreams St.Stream self.old }
         requires new { St.can_poll stream }
@@ -183,9 +183,13 @@ impl<St: Stream<Item: Drop>> MergeBounded<St> {
         let Ok(mut set) = FuturesUnordered::with_slots(self.alloc, 0) else {
             return Err(stream);
         };
-        let pushed = set.push_stream(stream);
-        self.set = Some(set);
-        pushed
+        match set.push_stream(stream) {
+            Ok(key) => {
+                self.set = Some(set);
+                Ok(key)
+            }
+            Err(back) => Err(back),
+        }
     }
 
     /// Cancels the stream of this key, so that no item of it is returned any more, and returns whether the stream was

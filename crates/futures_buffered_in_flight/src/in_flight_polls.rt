@@ -1,5 +1,5 @@
 //! The polls of a set: a poll starts each future that waits for memory, and then polls the set of `futures`.
-ghost use Rattle.std.specs.Prelude.{◌≡◌, ◌⊎◌, ◌<◌, ◌+◌, [], IfSome, IfNone, IsTrue, length};
+ghost use Rattle.std.specs.Prelude.{◌≡◌, ◌⊎◌, ◌<◌, ◌≤◌, ◌+◌, [], IfErr, IfSome, IfNone, length};
 ghost use Rattle.futures.specs.Poll.{IfReady, OnPending};
 ghost use Rattle.futures.specs.Queued.{AllPollable, AnyGives, GivesNoMore};
 ghost use Rattle.futures.specs.Task.{Covers, Keeps};
@@ -7,20 +7,38 @@ ghost use Rattle.futures_buffered_core.specs.SlotMap.{held_count};
 ghost use Rattle.futures_buffered_unordered.specs.FuturesUnorderedBounded.{IsWoken};
 ghost use Rattle.futures_buffered_in_flight.specs.InFlight.{CanPollAll, FlightsGiveNoMore, FlightsWaitAt, GivesWithKey};
 ghost use Rattle.futures_buffered_in_flight.specs.InFlight.{PollsInFlight, room_taken, run_count, runs_in};
-ghost use Rattle.futures_buffered_in_flight.specs.InFlightTurns.{Starts};
+ghost use Rattle.futures_buffered_in_flight.specs.InFlightLedger.{RunGives};
+ghost use Rattle.futures_buffered_in_flight.specs.InFlightTurns.{RunsLeft, Starts, Takes};
+ghost use Rattle.futures_buffered_in_flight.specs.Ledger.{IsGivenBy, IsNotice};
 ghost use Rattle.futures_buffered_in_flight.specs.declared.run.Run.{Run};
 
 use crate::in_flight::{Came, FuturesUnorderedBy};
-use crate::run::Key;
+use crate::ledger::{Notice, Ticket};
+use crate::run::Waits;
 use futures::task::{Context, Poll};
 use futures::{Future, Stream};
 
 impl<F: Future<Output: Drop>, T: Drop, K> FuturesUnorderedBy<F, T, K> {
-    // Returns whether the future of this key, which waits, was cancelled.
-    fn is_over(&self, key: Key) -> bool
-        ensures { IsTrue result → 0 < self.now.cancelled }
+    // Ends the run of this ticket, which was cancelled, as its notice shows.
+    fn end_told(&mut self, ticket: Ticket, notice: Notice)
+        requires given { IsGivenBy self.old.ledger ticket }
+        requires notice { IsNotice ticket notice }
+        requires room { length self.old.waiting + 1 ≤ room_taken self.old }
+        ensures fewer { self.new.cancelled + 1 ≡ self.old.cancelled }
+        ensures ledger { (self.new.ledger.id ≡ self.old.ledger.id) × (self.new.ledger.clears ≡ self.old.ledger.clears) }
+        ensures rest { (self.new.slots ≡ self.old.slots) × (self.new.next ≡ self.old.next)
+            × (self.new.waiting ≡ self.old.waiting) × (self.new.running ≡ self.old.running) }
     {
-        self.cancelled > 0 && !self.contains(key)
+        self.ledger.check(notice);
+        self.end_cancelled(ticket);
+        self.rest();
+    }
+
+    // Lets the runs look no longer whether they were cancelled, if no cancelled future is left.
+    fn rest(&self) {
+        if self.cancelled == 0 {
+            self.bells.rest();
+        }
     }
 
     // Drops the future that waited longest, if it was cancelled. Otherwise pushes it into the set of `futures`, or it
@@ -33,11 +51,13 @@ impl<F: Future<Output: Drop>, T: Drop, K> FuturesUnorderedBy<F, T, K> {
         let Some(value) = self.waiting.pop_front() else {
             return;
         };
-        if self.is_over(value.key) {
-            self.cancelled -= 1;
-            return;
+        if self.contains(value.ticket.key()) {
+            self.start(value);
+        } else {
+            let Waits { ticket, future: _ } = value;
+            self.end_cancelled(ticket);
+            self.rest();
         }
-        self.start(value);
     }
 
     // Starts each future that waits, in turn.
@@ -61,18 +81,23 @@ impl<F: Future<Output: Drop>, T: Drop, K> FuturesUnorderedBy<F, T, K> {
         }
     }
 
-    // Polls the set of `futures` once. A pending poll leaves some futures there.
+    // Polls the set of `futures` once.
     #[tactic(auto, using(crate::proofs::InFlightLemmas::narrows_within))]
-    fn poll_running(&mut self, cx: &mut Context<'_>) -> Poll<Option<(Key, Option<F::Output>)>>
+    fn poll_running(
+        &mut self,
+        cx: &mut Context<'_>,
+    ) -> Poll<Option<(Ticket, Result<F::Output, Notice>)>>
         requires { AllPollable (λ (run : Run F). F.can_poll run.future) (runs_in self.old.running) }
         ensures pollable { AllPollable (λ (run : Run F). F.can_poll run.future) (runs_in self.new.running) }
         ensures gave { IfReady result
-            (λ o. IfSome o (AnyGives (GivesWithKey F.gives) (runs_in self.old.running))) }
+            (λ o. IfSome o (AnyGives (RunGives F.gives) (runs_in self.old.running))) }
+        ensures given { IfReady result (λ o. IfSome o (λ came. IsGivenBy self.old.ledger came.0)) }
         ensures gives { GivesNoMore (GivesWithKey F.gives)
             (runs_in self.old.running) (runs_in self.new.running) }
+        ensures counts { RunsLeft (run_count self.old.running) result (run_count self.new.running) }
         ensures rest { (self.new.slots ≡ self.old.slots) × (self.new.next ≡ self.old.next)
             × (self.new.waiting ≡ self.old.waiting) × (self.new.cancelled ≡ self.old.cancelled) }
-        ensures left { OnPending result (0 < run_count self.new.running) }
+        ensures ledger { self.new.ledger ≡ self.old.ledger }
         ensures registered { OnPending result (Covers cx.new (FlightsWaitAt self.new)) }
         ensures kept { Keeps cx.old cx.new }
     {
@@ -82,26 +107,20 @@ impl<F: Future<Output: Drop>, T: Drop, K> FuturesUnorderedBy<F, T, K> {
         if running.is_empty() {
             return Poll::Ready(None);
         }
-        match running.poll_next(cx) {
-            Poll::Pending => Poll::Pending,
-            Poll::Ready(Some(came)) => Poll::Ready(Some(came)),
-            Poll::Ready(None) => {
-                self.running = None;
-                self.bells.let_all_go();
-                Poll::Ready(None)
-            }
-        }
+        let came = match running.poll_next(cx) {
+            Poll::Pending => return Poll::Pending,
+            Poll::Ready(Some(came)) => came,
+            Poll::Ready(None) => unreachable!(),
+        };
+        Poll::Ready(Some(came))
     }
 
-    // Follows a pending poll of the set of `futures`. Wakes the task if a cancelled future is left, or if not each
-    // future is there: no clause of `futures` says that it is.
+    // Follows a pending poll of the set of `futures`. Wakes the task if a cancelled future is left.
     fn stay(&self, cx: &mut Context<'_>)
-        ensures stays { (run_count self.now.running + length self.now.waiting ≡ room_taken self.now)
-            ⊎ IsWoken cx.new }
         ensures ended { (self.now.cancelled ≡ 0) ⊎ IsWoken cx.new }
         ensures kept { Keeps cx.old cx.new }
     {
-        if self.cancelled > 0 || self.running_len() != self.flying() {
+        if self.cancelled > 0 {
             let _: Poll<()> = cx.yield_now();
         }
     }
@@ -119,6 +138,40 @@ impl<F: Future<Output: Drop>, T: Drop, K> FuturesUnorderedBy<F, T, K> {
     {
         if self.cancelled > 0 {
             self.drop_all();
+        }
+    }
+
+    // Takes the answer of a run that has ended. Returns the output with its key and tag if the future is held, or `None`
+    // if it was cancelled.
+    fn take_answer(
+        &mut self,
+        ticket: Ticket,
+        answer: Result<F::Output, Notice>,
+    ) -> Option<Came<F::Output, T>>
+        requires given { IsGivenBy self.old.ledger ticket }
+        requires notice { IfErr answer (IsNotice ticket) }
+        requires room { length self.old.waiting + 1 ≤ room_taken self.old }
+        ensures came { IfSome result (λ came. Takes self.old ticket answer came self.new) }
+        ensures none { IfNone result ((self.new.slots ≡ self.old.slots) × (self.new.cancelled + 1 ≡ self.old.cancelled)) }
+        ensures ledger { (self.new.ledger.id ≡ self.old.ledger.id) × (self.new.ledger.clears ≡ self.old.ledger.clears) }
+        ensures rest { (self.new.next ≡ self.old.next) × (self.new.waiting ≡ self.old.waiting)
+            × (self.new.running ≡ self.old.running) }
+    {
+        match answer {
+            Ok(output) => match self.take_place(ticket.key()) {
+                Some(freed) => {
+                    self.end_cancelled(ticket);
+                    Some(freed.with(output))
+                }
+                None => {
+                    self.end_cancelled(ticket);
+                    None
+                }
+            },
+            Err(notice) => {
+                self.end_told(ticket, notice);
+                None
+            }
         }
     }
 
@@ -141,22 +194,11 @@ impl<F: Future<Output: Drop>, T: Drop, K> FuturesUnorderedBy<F, T, K> {
                 self.stay(cx);
                 Some(Poll::Pending)
             }
-            // The set of `futures` has a future, so this arm is not taken. No clause of `futures` says so.
-            Poll::Ready(None) => Some(cx.yield_now()),
-            Poll::Ready(Some((key, Some(output)))) => match self.take_place(key) {
-                Some(freed) => {
-                    self.end_cancelled();
-                    Some(Poll::Ready(Some(freed.with(output))))
-                }
-                None => {
-                    self.end_cancelled();
-                    None
-                }
+            Poll::Ready(None) => unreachable!(),
+            Poll::Ready(Some((ticket, answer))) => match self.take_answer(ticket, answer) {
+                Some(came) => Some(Poll::Ready(Some(came))),
+                None => None,
             },
-            Poll::Ready(Some((_, None))) => {
-                self.end_cancelled();
-                None
-            }
         }
     }
 

@@ -98,7 +98,7 @@ impl<F: Future<Output: Drop>, K: Kind> NumberedSet for FuturesUnorderedBy<F, usi
 
     ghost is_fit = { F.can_poll };
 
-    #[tactic(auto, using(crate::proofs::InFlightQueueLemmas::refuses_grown, crate::proofs::InFlightQueueLemmas::refuses_bounded))]
+    #[tactic(auto, using(crate::proofs::InFlightQueueLemmas::refuses_grown, crate::proofs::InFlightQueueLemmas::refuses_bounded, crate::proofs::InFlightQueueLemmas::still_can_queue))]
     fn refuses_all(&self) -> bool {
         if K::GROWS {
             self.next == u64::MAX

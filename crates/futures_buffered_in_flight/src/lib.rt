@@ -5,7 +5,8 @@
 //! `futures`.
 //!
 //! - `run`: `Key`, which identifies one push, and `Run`, a future whose output comes with its key.
-//! - `bells`: how a cancel reaches a run, and wakes it.
+//! - `ledger`: which futures have not ended, and which were cancelled, by seats of one table; `ledger_rule` has its rule.
+//! - `bells`: how a cancel wakes a run.
 //! - `in_flight`: `FuturesUnorderedBounded`, at most n futures, each with a key by which it can be cancelled;
 //!   `in_flight_growing` has `FuturesUnordered`, the set of any number, and `in_flight_polls` the polls of both;
 //!   `in_flight_stream` has both as a stream, and `in_flight_queue` both as an adaptor or a queue holds them; `keyless`
@@ -32,6 +33,8 @@ mod in_flight_queue;
 mod in_flight_stream;
 pub mod kept;
 mod keyless;
+mod ledger;
+mod ledger_rule;
 pub mod run;
 pub mod waiting;
 

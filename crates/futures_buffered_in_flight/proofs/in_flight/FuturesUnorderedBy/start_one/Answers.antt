@@ -2,11 +2,9 @@ use Rattle.futures_buffered_in_flight.proofs.Common.{rules, refl}
 use Rattle.futures_buffered_in_flight.proofs.InFlightLemmas.{dropped}
 use Rattle.futures_buffered_in_flight.proofs.in_flight.FuturesUnorderedBy.start_one.Goals as goal
 
-pub returns-then-is_over : goal.returns-then-is_over
-returns-then-is_over g c =
-    rw (← c.self.view_is) (dropped g.F.Future _ _ c.in-Some.value (rw (← c.self.view_is) at c.requires) (search rules) refl refl refl (search rules))
-
-pub start-requires-clause-held : goal.start-requires-clause-held
-start-requires-clause-held g c =
-    let can = rw (← c.self.view_is) at c.requires in
-    can.running
+pub returns-else-contains : goal.returns-else-contains
+returns-else-contains g c =
+    let ended = c.end_cancelled.ensures in
+    rw (← c.self.view_is) (dropped g.F.Future _
+    (record { slots = c.self.inside.slots; running = c.self.inside.running; waiting = c.end_cancelled.new.self.waiting; cancelled = c.self.inside.cancelled; next = c.self.inside.next; ledger = c.self.inside.ledger })
+    c.end_cancelled.new.self c.in-Some.value (rw (← c.self.view_is) at c.requires) (search rules) refl refl refl refl refl ended.rest.3 ended.rest.0 ended.rest.1 ended.fewer)
